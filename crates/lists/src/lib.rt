@@ -1,0 +1,1 @@
+// Definitions and laws on lists and tests, for the crates above; no code of its own.
