@@ -1,0 +1,4 @@
+pub mod Reckoned
+pub mod Answers
+pub mod Census
+pub mod Hundreds
