@@ -12,7 +12,7 @@ use Rattle.lists.proofs.Signed.{same-difference, difference-same}
 use borrow.Author.Tests.{eqb-true, ltb-true}
 use Rattle.lists.specs.Lists.{pick, allBelow, countBelow}
 use Rattle.lists.proofs.Below.{all-below, equal-below, less-below}
-use Rattle.altitude.specs.Code.{Form, formOf, group, hundreds, fiveHundreds, feetBy100}
+use Rattle.altitude.specs.Code.{Form, formOf, group, hundreds, fiveHundreds, eight, grayValue, feetBy100}
 use Rattle.altitude.specs.Code.Form.{allZero, metric, by25, by100, illegal}
 use Rattle.altitude.specs.Claims.{nth, differing, Says, HundredFootCode}
 
@@ -49,7 +49,7 @@ unfolding allBelow hundredCode hundreds formOf group
 code-form k h = equal-below (λ x. nth (formOf (hundredCode x))) (λ x. 3) 1280 refl k h
 
 code-above : (k : ℕ) → k < 1280 → above (hundredCode k) ≡ k + 1
-unfolding allBelow hundredCode hundreds group fiveHundreds
+unfolding allBelow hundredCode hundreds group fiveHundreds eight grayValue
 code-above k h = equal-below (λ x. above (hundredCode x)) (λ x. x + 1) 1280 refl k h
 
 code-next : (k : ℕ) → k < 1279 → differing (hundredCode k) (hundredCode (suc k)) ≡ 1
@@ -61,7 +61,7 @@ abbrev back : ℕ → Bool
 back ac = pick (eqb (nth (formOf ac)) 3) (eqb (hundredCode (above ac - 1)) ac && (ltb 0 (above ac) && ltb (above ac) 1281)) true
 
 all-back : (ac : ℕ) → ac < 8192 → back ac ≡ true
-unfolding allBelow hundredCode hundreds formOf group fiveHundreds
+unfolding allBelow hundredCode hundreds formOf group fiveHundreds eight grayValue
 all-back ac h = all-below back 8192 refl ac h
 
 -- ---- from the tests to the claims

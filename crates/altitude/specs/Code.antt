@@ -1,6 +1,6 @@
 -- The altitude code of Annex 10: what the 13 bits of AC say. The bits are, first the most significant,
 -- C1 A1 C2 A2 C4 A4 M B1 Q B2 D2 B4 D4.
-use Prim.Native.Nat.{ℕ, _+_, _-_, _*_, _/_, _%_, _^_}
+use Prim.Native.Nat.{ℕ, zero, suc, _+_, _-_, _*_, _/_, _%_, _^_}
 use mathlib.Core.List.{List, [], _∷_}
 use lib.Dec.{eqb, ltb}
 use lib.IntN.{ℤ, subℕ}
@@ -70,18 +70,20 @@ feetBy25 ac = subℕ (25 * eleven ac) 1000
 
 -- ---- the 100 ft code: 500 × n + 100 × c − 1300
 
--- the number that bits in Gray code spell after n: a bit is turned where the one before it is set
-abbrev pub graySpelled : ℕ → List ℕ → ℕ
-graySpelled n [] = n
-graySpelled n (b ∷ bs) = graySpelled (n * 2 + (n + b) % 2) bs
+-- the value of k bits in Gray code: a bit is turned where the one before it, in the value, is set
+unfoldable pub grayValue : ℕ → ℕ → ℕ
+grayValue zero g = 0
+grayValue (suc k) g =
+    let n = grayValue k (g / 2) in
+    n * 2 + (n + g) % 2
 
 -- the eight bits of the five hundreds
-abbrev pub eightBits : ℕ → List ℕ
-eightBits ac = D2 ac ∷ D4 ac ∷ A1 ac ∷ A2 ac ∷ A4 ac ∷ B1 ac ∷ B2 ac ∷ B4 ac ∷ []
+unfoldable pub eight : ℕ → ℕ
+eight ac = spelled 0 (D2 ac ∷ D4 ac ∷ A1 ac ∷ A2 ac ∷ A4 ac ∷ B1 ac ∷ B2 ac ∷ B4 ac ∷ [])
 
 -- n: the Gray value of D2 D4 A1 A2 A4 B1 B2 B4
 unfoldable pub fiveHundreds : ℕ → ℕ
-fiveHundreds ac = graySpelled 0 (eightBits ac)
+fiveHundreds ac = grayValue 8 (eight ac)
 
 -- C1 C2 C4: 001, 011, 010, 110, 100 is 1 to 5; any other is no pattern of the code, here 0
 abbrev pub patternOf : ℕ → ℕ

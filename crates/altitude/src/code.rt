@@ -1,8 +1,8 @@
 // What the 13 bits of AC say of the altitude.
 ghost use mathlib.Core.Path.{_≡_};
-ghost use Prim.Native.Nat.{_+_, _*_, _%_, _≤_, _<_};
+ghost use Prim.Native.Nat.{_+_, _*_, _≤_, _<_};
 ghost use lib.IntN.{subℕ};
-ghost use Rattle.altitude.specs.Code.{bitAt, spelled, eleven, eightBits, fiveHundreds, group, hundreds, altitude};
+ghost use Rattle.altitude.specs.Code.{bitAt, eleven, eight, grayValue, fiveHundreds, group, hundreds, altitude};
 
 // The places of AC's bits, the last being 0. Q's place is that of D1, which the 100 ft code leaves unused.
 const C1: u32 = 12;
@@ -63,9 +63,9 @@ fn eleven_bits(ac: u32) -> u32
     (ac >> A4) * 32 + (ac >> B1) % 2 * 16 + ac % 16
 }
 
-// D2 D4 A1 A2 A4 B1 B2 B4, as a number in Gray code.
-fn gray_bits(ac: u32) -> u32
-    ensures { λ r. ⌜ (r ≡ spelled 0 (eightBits ac)) × (r < 256) ⌝ }
+// D2 D4 A1 A2 A4 B1 B2 B4, as a number.
+fn eight_bits(ac: u32) -> u32
+    ensures { λ r. ⌜ (r ≡ eight ac) × (r < 256) ⌝ }
 {
     let d = (ac >> D2) % 2 * 2 + (ac >> D4) % 2;
     let a = (ac >> A1) % 2 * 4 + (ac >> A2) % 2 * 2 + (ac >> A4) % 2;
@@ -73,20 +73,25 @@ fn gray_bits(ac: u32) -> u32
     d * 64 + a * 8 + b
 }
 
-// The five hundreds: the number whose Gray code those eight bits are.
-fn five_hundreds(ac: u32) -> u32
-    requires { ⌜ ac < 8192 ⌝ }
-    ensures { λ r. ⌜ (r ≡ fiveHundreds ac) × (r < 256) ⌝ }
+// The value of eight bits in Gray code.
+fn from_gray(g: u32) -> u32
+    requires { ⌜ g < 256 ⌝ }
+    ensures { λ r. ⌜ (r ≡ grayValue 8 g) × (r < 256) ⌝ }
 {
-    let g = gray_bits(ac);
     let by4 = g ^ (g >> 4);
     let by2 = by4 ^ (by4 >> 2);
     by2 ^ (by2 >> 1)
 }
 
+// The five hundreds.
+fn five_hundreds(ac: u32) -> u32
+    ensures { λ r. ⌜ (r ≡ fiveHundreds ac) × (r < 256) ⌝ }
+{
+    from_gray(eight_bits(ac))
+}
+
 // The hundreds of C1 C2 C4, or 0 where they are no pattern of the code.
 fn pattern(ac: u32) -> u32
-    requires { ⌜ ac < 8192 ⌝ }
     ensures { λ r. ⌜ (r ≡ group ac) × (r ≤ 5) ⌝ }
 {
     let c = (ac >> C1) % 2 * 4 + (ac >> C2) % 2 * 2 + (ac >> C4) % 2;

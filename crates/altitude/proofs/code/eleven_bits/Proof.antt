@@ -1,5 +1,6 @@
 -- `eleven_bits` gathers the eleven bits besides M and Q.
-use Rattle.altitude.proofs.Reckoned.{eleven-is, eleven-lt}
+use native.Mathlib.Omega.{arith}
+use Rattle.altitude.proofs.Reckoned.{eleven-is}
 use borrow.Author.Needs.{needs}
 use Rattle.altitude.proofs.code.eleven_bits.Statement.{statement}
 use Rattle.altitude.proofs.code.eleven_bits.Tie as tie
@@ -17,7 +18,7 @@ add-result-2 : tie.Need-add-result-2
 add-result-2 c = search needs
 
 returns : tie.Need-returns
-returns c = let e = eleven-is (c .args .ac) (c .pre) in (e, rw e (eleven-lt (c .args .ac) (c .pre)))
+returns c = (eleven-is (c .args .ac) (c .pre), omega arith)
 
 pub eleven-bits-spec : {M : Type 1} → statement M
 eleven-bits-spec = tie.close (tie.spec mul-result mul-result-2 add-result add-result-2 returns)

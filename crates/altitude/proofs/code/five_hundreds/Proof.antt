@@ -1,20 +1,21 @@
--- `five_hundreds` undoes the Gray code of the eight bits by three folds.
-use mathlib.Core.Path.{_≡_, ap, _∙_}
-use Rattle.altitude.specs.Code.{fiveHundreds}
-use Rattle.altitude.proofs.Reckoned.{ungray, five-is, five-lt}
+-- `five_hundreds` is the Gray value of the eight bits.
+use mathlib.Core.Path.{ap, _∙_}
+use Rattle.altitude.specs.Code.{fiveHundreds, grayValue}
 use borrow.Author.Needs.{needs}
 use Rattle.altitude.proofs.code.five_hundreds.Statement.{statement}
 use Rattle.altitude.proofs.code.five_hundreds.Tie as tie
 
-gray-bits-requires : tie.Need-gray-bits-requires
-gray-bits-requires c κs = search needs
+eight-bits-requires : tie.Need-eight-bits-requires
+eight-bits-requires c κs = search needs
+
+from-gray-requires : tie.Need-from-gray-requires
+from-gray-requires c κs = search needs
 
 returns : tie.Need-returns
+unfolding fiveHundreds
 returns c =
-    let ac = c .before .args .ac in
-    let h = c .before .pre in
-    let e : ungray (c .gray-bits .result) ≡ fiveHundreds ac = ap ungray (c .gray-bits .ensures .0) ∙ five-is ac h in
-    (e, rw e (five-lt ac h))
+    let r = c .from-gray .ensures in
+    (r .0 ∙ ap (grayValue 8) (c .before .eight-bits .ensures .0), r .1)
 
 pub five-hundreds-spec : {M : Type 1} → statement M
-five-hundreds-spec = tie.close (tie.spec gray-bits-requires returns)
+five-hundreds-spec = tie.close (tie.spec eight-bits-requires from-gray-requires returns)

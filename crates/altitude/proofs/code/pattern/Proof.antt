@@ -1,6 +1,5 @@
--- `pattern` reads the table at C1 C2 C4, which is the definition's chain.
-use native.Mathlib.Nat.{le-of-suc-le-suc}
-use Rattle.altitude.proofs.Reckoned.{group-is, group-lt}
+-- `pattern` reads the table at C1 C2 C4, which holds the definition's patterns.
+use Rattle.altitude.proofs.Reckoned.{group-is, group-le}
 use borrow.Author.Needs.{needs}
 use Rattle.altitude.proofs.code.pattern.Statement.{statement}
 use Rattle.altitude.proofs.code.pattern.Tie as tie
@@ -27,7 +26,7 @@ array-read-result : tie.Need-array-read-result
 array-read-result c = search needs
 
 returns : tie.Need-returns
-returns c = let e = group-is (c .args .ac) (c .pre) in (e, rw e (le-of-suc-le-suc (group-lt (c .args .ac) (c .pre))))
+returns c = (group-is (c .args .ac), group-le (c .args .ac))
 
 pub pattern-spec : {M : Type 1} → statement M
 pattern-spec =
