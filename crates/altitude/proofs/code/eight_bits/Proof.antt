@@ -1,7 +1,5 @@
 -- `eight_bits` gathers the eight bits of the five hundreds in three groups.
-use native.Mathlib.Omega.{arith}
-use Rattle.altitude.specs.Code.{D2, D4, A1, A2, A4, B1, B2, B4, eight}
-use Rattle.altitude.proofs.Reckoned.{three-groups, three-groups-lt}
+use Rattle.altitude.proofs.Reckoned.{eight-is, eight-lt}
 use borrow.Author.Needs.{needs}
 use Rattle.altitude.proofs.code.eight_bits.Statement.{statement}
 use Rattle.altitude.proofs.code.eight_bits.Tie as tie
@@ -49,12 +47,7 @@ add-result-2 : tie.Need-add-result-2
 add-result-2 c = search needs
 
 returns : tie.Need-returns
-unfolding eight
-returns c =
-    let ac = c .args .ac in (
-      three-groups (D2 ac) (D4 ac) (A1 ac) (A2 ac) (A4 ac) (B1 ac) (B2 ac) (B4 ac),
-      three-groups-lt (D2 ac) (D4 ac) (A1 ac) (A2 ac) (A4 ac) (B1 ac) (B2 ac) (B4 ac) (omega arith) (omega arith) (omega arith) (omega arith) (omega arith) (omega arith) (omega arith) (omega arith),
-    )
+returns c = (eight-is (c .args .ac), eight-lt (c .args .ac))
 
 pub eight-bits-spec : {M : Type 1} → statement M
 eight-bits-spec =

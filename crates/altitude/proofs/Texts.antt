@@ -1,0 +1,59 @@
+-- The texts of feet from the parts that the code lays one after the other, and what a line's words print.
+use Prim.Native.Nat.{ℕ, _+_, _-_, _≤_, _<_, min}
+use native.Mathlib.Omega.{arith}
+use mathlib.Core.Path.{_≡_}
+use mathlib.Core.List.{List, [], _∷_}
+use lib.IntN.{ℤ}
+use lib.Seq.{take-nil}
+use lib.ListN.{length, take, drop, drop-of-length-le}
+use Rattle.text.specs.Put.{decimal, Put}
+use Rattle.text.specs.Signed.{signedDecimal}
+use Rattle.text.specs.Line.{wordsOf, wordAt, within, parts, full, lineAt, lineEnd, runEnd}
+use Rattle.text.specs.Number.{numberIn}
+use Rattle.text.proofs.Laid.{put-then}
+use Rattle.text.proofs.Words.{words-next, words-end}
+use Rattle.text.specs.declared.answer.Span.{Span}
+use Rattle.altitude.specs.declared.code.Altitude.{Altitude}
+use Rattle.altitude.specs.declared.code.Altitude.the-variants.{Feet}
+use Rattle.altitude.specs.Code.{altitude, numberOf}
+use Rattle.altitude.specs.Lines.{valueText, codeText, noCode, numberText, wordsText, lineText}
+
+-- ---- a code's line
+
+pub feet-put : {a : Altitude} {z : ℤ} {at r q p : ℕ} {l m o n : List ℕ} → a ≡ Feet z → Put (32 ∷ []) at l m r → Put (signedDecimal z) r m o q → Put (10 ∷ []) q o n p
+    → Put (valueText a) at l n p
+unfolding valueText
+feet-put e x y w = rw e (put-then x (put-then y w))
+
+pub code-put : (ac : ℕ) {k : ℕ} {a : Altitude} {r q p s : ℕ} {l m o n h : List ℕ} → a ≡ altitude ac → k ≡ numberOf a
+    → Put (decimal ac) 0 l m r → Put (32 ∷ []) r m o q → Put (decimal k) q o n p → Put (valueText a) p n h s → Put (codeText ac) 0 l h s
+unfolding codeText
+code-put ac e f x y w v = rw (← e, ← f) (put-then x (put-then y (put-then w v)))
+
+-- ---- a line's words
+
+module _ (line : List ℕ) (v : Span) (ev : v ≡ wordAt line 0) where
+  -- no word
+  pub no-word : v .to ≤ v .from → lineText line ≡ []
+  unfolding lineText wordsText
+  no-word h = rw (words-end line 0 (rw ev at h))
+
+  -- a first word, and a look for a second
+  module _ (h : v .from < v .to) (w : Span) (ew : w ≡ wordAt line (v .to)) where
+    first-word : wordsOf line ≡ within line v ∷ wordsOf (drop (v .to) line)
+    first-word = rw ev (words-next line 0 (rw ev at h))
+
+    pub two-words : w .from < w .to → lineText line ≡ noCode
+    unfolding lineText wordsText
+    two-words k = rw (first-word, words-next line (v .to) (rw ew at k))
+
+    pub one-word : w .to ≤ w .from → lineText line ≡ numberText (numberIn 9 (take (v .to - v .from) (drop (v .from) line)))
+    unfolding lineText wordsText within
+    one-word k = rw (first-word, words-end line (v .to) (rw ew at k))
+
+-- ---- a line of the input
+
+-- behind the input's end there is no line
+pub past-end : (s : List ℕ) (at : ℕ) → length s ≤ at → (length s ≡ min (length s) (lineEnd s at + 1)) × (lineText (lineAt s at) ≡ [])
+unfolding lineText wordsText wordsOf full parts lineAt lineEnd runEnd
+past-end s at h = (omega arith, rw (drop-of-length-le s h, take-nil))

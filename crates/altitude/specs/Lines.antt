@@ -1,0 +1,57 @@
+-- The lines of the program feet: for each line of its input, what it prints.
+use Prim.Native.Nat.{ℕ, _+_, min}
+use mathlib.Core.Path.{_≡_}
+use mathlib.Core.List.{List, [], _∷_, _++_}
+use lib.ListN.{length}
+use Rattle.text.specs.Put.{decimal, Put}
+use Rattle.text.specs.Signed.{signedDecimal}
+use Rattle.text.specs.Line.{linesOf, lineAt, lineEnd, wordsOf}
+use Rattle.text.specs.Number.{numberIn}
+use Rattle.text.specs.declared.answer.Number.{Number}
+use Rattle.text.specs.declared.answer.Number.the-variants.{Is, Not}
+use Rattle.altitude.specs.declared.code.Altitude.{Altitude}
+use Rattle.altitude.specs.declared.code.Altitude.the-variants.{Feet, None, Metric, Range, Illegal}
+use Rattle.altitude.specs.declared.lines.Lined.{Lined}
+use Rattle.altitude.specs.Code.{altitude, numberOf}
+
+-- what stands behind the answer's number, and the line's end: the feet, " none", " metric", or nothing for a refusal
+unfoldable pub valueText : Altitude → List ℕ
+valueText (Feet z) = 32 ∷ (signedDecimal z ++ (10 ∷ []))
+valueText None = 32 ∷ 110 ∷ 111 ∷ 110 ∷ 101 ∷ 10 ∷ []
+valueText Metric = 32 ∷ 109 ∷ 101 ∷ 116 ∷ 114 ∷ 105 ∷ 99 ∷ 10 ∷ []
+valueText Range = 10 ∷ []
+valueText Illegal = 10 ∷ []
+
+-- the code, the answer's number, and the value
+unfoldable pub codeText : ℕ → List ℕ
+codeText ac = decimal ac ++ (32 ∷ (decimal (numberOf (altitude ac)) ++ valueText (altitude ac)))
+
+-- "- 2", for a line that is no number of one to nine digits
+abbrev pub noCode : List ℕ
+noCode = 45 ∷ 32 ∷ 50 ∷ 10 ∷ []
+
+unfoldable pub numberText : Number → List ℕ
+numberText (Is ac) = codeText ac
+numberText Not = noCode
+
+-- a line of nothing but blanks prints nothing, a line of one word its code, any other "- 2"
+unfoldable pub wordsText : List (List ℕ) → List ℕ
+wordsText [] = []
+wordsText (w ∷ []) = numberText (numberIn 9 w)
+wordsText (w ∷ v ∷ ws) = noCode
+
+unfoldable pub lineText : List ℕ → List ℕ
+lineText line = wordsText (wordsOf line)
+
+-- the whole run: line after line
+unfoldable pub linesText : List (List ℕ) → List ℕ
+linesText [] = []
+linesText (l ∷ ls) = lineText l ++ linesText ls
+
+unfoldable pub feetText : List ℕ → List ℕ
+feetText s = linesText (linesOf s)
+
+-- the line at a place was taken: its text stands at the front of the buffer, and the next line begins at next
+pub record TookLine (s : List ℕ) (at : ℕ) (before after : List ℕ) (r : Lined) : Type 0 where
+  pub next : r .next ≡ min (length s) (lineEnd s at + 1)
+  pub text : Put (lineText (lineAt s at)) 0 before after (r .size)

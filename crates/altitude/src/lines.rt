@@ -1,0 +1,96 @@
+// The lines of the program feet, as their very bytes.
+ghost use mathlib.Core.Path.{_≡_};
+ghost use Rattle.text.specs.Put.{Put};
+ghost use Rattle.altitude.specs.Code.{numberOf};
+ghost use Rattle.altitude.specs.Lines.{valueText, codeText, lineText, TookLine};
+use crate::code::Altitude;
+use crate::code::read;
+use text::Number;
+
+// A line was taken: the place of the next one, and how many bytes stand in the buffer.
+pub struct Lined {
+    pub next: usize,
+    pub size: usize,
+}
+
+// The number that an answer is given.
+pub fn number(a: Altitude) -> u32
+    ensures { λ r. ⌜ r ≡ numberOf a ⌝ }
+{
+    match a {
+        Altitude::Feet(_) => 0,
+        Altitude::None => 0,
+        Altitude::Metric => 0,
+        Altitude::Range => 2,
+        Altitude::Illegal => 18,
+    }
+}
+
+// What stands behind the answer's number, and the line's end.
+fn put_value(out: &mut [u8], at: usize, a: Altitude) -> usize
+    ensures { λ r. ⌜ Put (valueText a) at (now (out .entry)) (now (out .exit)) r ⌝ }
+{
+    match a {
+        Altitude::Feet(z) => {
+            let sign = text::put_byte(out, at, 32);
+            let end = text::put_signed(out, sign, z);
+            text::put_byte(out, end, 10)
+        }
+        Altitude::None => text::put_bytes(out, at, b" none\n"),
+        Altitude::Metric => text::put_bytes(out, at, b" metric\n"),
+        Altitude::Range => text::put_byte(out, at, 10),
+        Altitude::Illegal => text::put_byte(out, at, 10),
+    }
+}
+
+// The line of a code.
+fn put_code(out: &mut [u8], ac: u32) -> usize
+    ensures { λ r. ⌜ Put (codeText ac) 0 (now (out .entry)) (now (out .exit)) r ⌝ }
+{
+    let a = read(ac);
+    let gap = text::put_decimal(out, 0, ac);
+    let answer = text::put_byte(out, gap, 32);
+    let value = text::put_decimal(out, answer, number(a));
+    put_value(out, value, a)
+}
+
+// What a line prints.
+fn put_line(line: &[u8], out: &mut [u8]) -> usize
+    ensures { λ r. ⌜ Put (lineText (now (line .entry))) 0 (now (out .entry)) (now (out .exit)) r ⌝ }
+{
+    let first = text::word(line, 0);
+    let from = first.from;
+    let to = first.to;
+    if to <= from {
+        return 0;
+    }
+    let second = text::word(line, to);
+    if second.from < second.to {
+        return text::put_bytes(out, 0, b"- 2\n");
+    }
+    match text::number(&line[from..to], 9) {
+        Number::Is(ac) => put_code(out, ac),
+        Number::Not => text::put_bytes(out, 0, b"- 2\n"),
+    }
+}
+
+// The line of s that begins at a place, as the text that feet prints for it.
+pub fn feet_line(s: &[u8], at: usize, out: &mut [u8]) -> Lined
+    ensures { λ r. ⌜ TookLine (now (s .entry)) at (now (out .entry)) (now (out .exit)) r ⌝ }
+{
+    if s.len() <= at {
+        return Lined {
+            next: s.len(),
+            size: 0,
+        };
+    }
+    let end = text::line_end(s, at);
+    let size = put_line(&s[at..end], out);
+    if end < s.len() {
+        return Lined {
+            next: end + 1,
+            size,
+        };
+    }
+    Lined { next: end, size }
+}

@@ -1,0 +1,8 @@
+-- The laws of the crate: for its own proofs and for its callers.
+pub mod Laid
+pub mod Decimal
+pub mod Runs
+pub mod Lines
+pub mod Words
+pub mod Values
+pub mod Signs

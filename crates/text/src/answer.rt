@@ -1,0 +1,13 @@
+// What the calls that read a line answer.
+
+// A part of a line: from the place `from` up to, not including, `to`.
+pub struct Span {
+    pub from: usize,
+    pub to: usize,
+}
+
+// What a word says as a decimal number.
+pub enum Number {
+    Is(u32),
+    Not,
+}

@@ -1,0 +1,16 @@
+// Lines of text: words, numbers and bytes read from a line, and decimal and hex laid into a lent buffer.
+mod answer;
+mod line;
+mod numbers;
+mod put;
+mod signed;
+
+pub use answer::Number;
+pub use answer::Span;
+pub use line::line_end;
+pub use line::word;
+pub use numbers::number;
+pub use put::put_byte;
+pub use put::put_bytes;
+pub use put::put_decimal;
+pub use signed::put_signed;

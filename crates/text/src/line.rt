@@ -1,0 +1,67 @@
+// Lines of an input and words of a line, by their places.
+ghost use mathlib.Core.Path.{_≡_};
+ghost use Rattle.text.specs.Line.{blank, inWord, runEnd, LineTo, NextWord};
+use crate::answer::Span;
+
+// The place of the first newline at or after at, or the input's length.
+pub fn line_end(s: &[u8], at: usize) -> usize
+    ensures { λ r. ⌜ LineTo (now (s .entry)) at r ⌝ }
+{
+    let mut i = at;
+    while i < s.len() {
+        if s[i] == 10 {
+            return i;
+        }
+        i += 1;
+    }
+    s.len()
+}
+
+// The next word at or after at; the empty span at the line's end where there is none.
+pub fn word(line: &[u8], at: usize) -> Span
+    ensures { λ r. ⌜ NextWord (now (line .entry)) at r ⌝ }
+{
+    let from = blanks_end(line, at);
+    let to = word_end(line, from);
+    Span { from, to }
+}
+
+fn is_blank(b: u8) -> bool
+    ensures { λ r. ⌜ r ≡ blank b ⌝ }
+{
+    if b == 32 {
+        return true;
+    }
+    if b == 9 {
+        return true;
+    }
+    b == 13
+}
+
+// The first place at or after at that has no blank.
+fn blanks_end(line: &[u8], at: usize) -> usize
+    ensures { λ r. ⌜ r ≡ runEnd blank (now (line .entry)) at ⌝ }
+{
+    let mut i = at;
+    while i < line.len() {
+        if !is_blank(line[i]) {
+            return i;
+        }
+        i += 1;
+    }
+    line.len()
+}
+
+// The first place at or after at that has a blank.
+fn word_end(line: &[u8], at: usize) -> usize
+    ensures { λ r. ⌜ r ≡ runEnd inWord (now (line .entry)) at ⌝ }
+{
+    let mut i = at;
+    while i < line.len() {
+        if is_blank(line[i]) {
+            return i;
+        }
+        i += 1;
+    }
+    line.len()
+}
