@@ -45,6 +45,10 @@ module _ {t : List ℕ} {at r : ℕ} {l m : List ℕ} (p : Put t at l m r) where
   pub put-count : r ≡ length (take r m)
   put-count = simp length-take (omega (arith, put-inside))
 
+-- a text by another name
+pub put-of : {a b : List ℕ} {at r : ℕ} {l m : List ℕ} → a ≡ b → Put a at l m r → Put b at l m r
+put-of e p = rw e at p
+
 pub put-none : (at : ℕ) (l : List ℕ) → at ≤ length l → Put [] at l l at
 unfolding laid
 put-none at l h = record { next = omega arith; text = refl }
@@ -83,6 +87,10 @@ still-first t start l = record { whole = λ o q p. p; same = refl }
 module _ {t : List ℕ} {start : ℕ} {l rest : List ℕ} {at : ℕ} {m : List ℕ} (s : Still t start l rest at m) where
   pub still-next : {a b o : List ℕ} {r : ℕ} → rest ≡ a ++ b → Put a at m o r → Still t start l b r o
   still-next e p = record { whole = λ o q y. s .whole o q (rw e (put-then p y)); same = put-same p ∙ s .same }
+
+  -- nothing is left
+  pub still-end : rest ≡ [] → at ≤ length m → Put t start l m at
+  still-end e h = s .whole _ _ (rw e (put-none at m h))
 
   pub still-last : {a o : List ℕ} {q : ℕ} → rest ≡ a → Put a at m o q → Put t start l o q
   still-last e p = s .whole _ _ (rw e p)

@@ -5,4 +5,7 @@ pub mod Runs
 pub mod Lines
 pub mod Words
 pub mod Values
+pub mod HexMade
+pub mod HexRead
+mod Examples
 pub mod Signs

@@ -91,13 +91,18 @@ module _ (s : List ℕ) (at : ℕ) where
   unfolding lineAt
   line-length = simp (length-take, length-drop) (omega (arith, line-end-fits))
 
+  pub line-at : (k : ℕ) → k < length (lineAt s at) → getD (lineAt s at) k 0 ≡ getD s (at + k) 0
+  unfolding lineAt
+  line-at k h =
+      let n : k < lineEnd s at - at = omega (arith, line-length) in
+      rw (getD-take (lineEnd s at - at) (drop at s) k 0 n, getD-drop at s k 0)
+
   -- no newline stands in a line
   pub line-clear : (k : ℕ) → k < length (lineAt s at) → newline (getD (lineAt s at) k 0) ≡ false
-  unfolding lineAt lineEnd
+  unfolding lineEnd
   line-clear k h =
-      let n : k < lineEnd s at - at = omega (arith, line-length) in
-      let e : inLine (getD s (at + k) 0) ≡ true = run-inside inLine s at k (omega arith) in
-      rw (getD-take (lineEnd s at - at) (drop at s) k 0 n, getD-drop at s k 0) (not-true (newline (getD s (at + k) 0)) (sym (in-line (getD s (at + k) 0)) ∙ e))
+      let e : inLine (getD s (at + k) 0) ≡ true = run-inside inLine s at k (omega (arith, line-length)) in
+      rw (line-at k h) (not-true (newline (getD s (at + k) 0)) (sym (in-line (getD s (at + k) 0)) ∙ e))
 
 -- ---- a run over all lines
 

@@ -2,17 +2,34 @@
 use Prim.Native.Nat.{ℕ, _+_, _-_, _*_, _^_, _≤_, _<_}
 use native.Mathlib.Numerals.{add-one}
 use native.Mathlib.Omega.{arith}
-use mathlib.Core.Path.{_≡_, _∙_}
+use mathlib.Core.Path.{_≡_, refl, _∙_}
 use mathlib.Core.List.{List, [], _∷_}
-use mathlib.Core.Bool.{_&&_, and-false}
+use mathlib.Core.Bool.{true, false, _&&_, and-false}
 use lib.Seq.{drop-cons}
 use lib.ListN.{length, getD, drop, drop-of-length-le}
 use lib.Dec.{ltb}
 use borrow.Author.Tests.{lt-ltb, le-ltb, le-leb, lt-leb}
 use Rattle.lists.specs.Lists.{pick}
-use Rattle.text.specs.Number.{isDigit, allDigits, valueAfter, numberIn}
+use Rattle.text.specs.Number.{between, isDigit, allDigits, valueAfter, numberIn}
 use Rattle.text.specs.declared.answer.Number.{Number}
 use Rattle.text.specs.declared.answer.Number.the-variants.{Is, Not}
+
+-- ---- the ranges of digits
+
+module _ (low high b : ℕ) where
+  pub in-range : low ≤ b → b ≤ high → between low high b ≡ true
+  unfolding between
+  in-range h k = rw (le-leb low b h, le-leb b high k)
+
+  pub under : b < low → between low high b ≡ false
+  unfolding between
+  under h = rw (lt-leb low b h)
+
+  pub over : low ≤ b → high < b → between low high b ≡ false
+  unfolding between
+  over h k = rw (le-leb low b h, lt-leb b high k)
+
+-- ---- a word of digits
 
 -- what the bytes w make of the value v of the digits before them
 unfoldable pub judged : ℕ → List ℕ → Number
@@ -20,7 +37,8 @@ judged v w = pick (allDigits w && ltb (valueAfter v w) (2 ^ 32)) (Is (valueAfter
 
 pub number-none : (most : ℕ) (w : List ℕ) → length w ≡ 0 → numberIn most w ≡ Not
 unfolding numberIn
-number-none most w h = rw (le-ltb 0 (length w) (omega arith))
+number-none most [] h = refl
+number-none most (b ∷ w) h = absurd (omega arith)
 
 pub number-long : (most : ℕ) (w : List ℕ) → most < length w → numberIn most w ≡ Not
 unfolding numberIn
@@ -37,15 +55,15 @@ module _ (w : List ℕ) (i : ℕ) (h : i < length w) (v : ℕ) where
 
   pub judged-digit : 48 ≤ getD w i 0 → getD w i 0 ≤ 57 → judged v (drop i w) ≡ judged (v * 10 + (getD w i 0 - 48)) (drop (i + 1) w)
   unfolding judged allDigits isDigit valueAfter
-  judged-digit a b = next ∙ rw (le-leb 48 (getD w i 0) a, le-leb (getD w i 0) 57 b)
+  judged-digit a b = next ∙ rw (in-range 48 57 (getD w i 0) a b)
 
   pub judged-low : getD w i 0 < 48 → judged v (drop i w) ≡ Not
   unfolding judged allDigits isDigit
-  judged-low a = next ∙ rw (lt-leb 48 (getD w i 0) a)
+  judged-low a = next ∙ rw (under 48 57 (getD w i 0) a)
 
   pub judged-high : 57 < getD w i 0 → judged v (drop i w) ≡ Not
   unfolding judged allDigits isDigit
-  judged-high a = next ∙ rw (le-leb 48 (getD w i 0) (omega arith), lt-leb (getD w i 0) 57 a)
+  judged-high a = next ∙ rw (over 48 57 (getD w i 0) (omega arith) a)
 
 grows : (v : ℕ) (w : List ℕ) → v ≤ valueAfter v w
 unfolding valueAfter

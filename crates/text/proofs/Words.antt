@@ -3,12 +3,12 @@ use Prim.Native.Nat.{ℕ, suc, _+_, _-_, _≤_, _<_}
 use native.Mathlib.Omega.{arith, min-cases}
 use mathlib.Core.Path.{_≡_, refl, sym, ap, _∙_}
 use mathlib.Core.List.{List, [], _∷_}
-use mathlib.Core.Bool.{Bool, true, false, not}
-use lib.Seq.{drop-drop, drop-length}
+use mathlib.Core.Bool.{Bool, true, false, not, _&&_, false≢true}
+use lib.Seq.{getD-take, getD-drop, drop-drop, drop-length}
 use lib.ListN.{length, getD, take, drop, length-drop, length-take, drop-of-length-le}
-use lib.Dec.{ltb}
-use borrow.Author.Tests.{ltb-true, ltb-false}
-use Rattle.text.specs.Line.{blank, inWord, parts, full, wordsOf, front, runEnd, wordAt, within, NextWord}
+use lib.Dec.{ltb, eqb}
+use borrow.Author.Tests.{ltb-true, ltb-false, eq-eqb, eqb-true}
+use Rattle.text.specs.Line.{blank, inWord, parts, full, wordsOf, front, runEnd, wordAt, within, NextWord, sameAs}
 use Rattle.text.specs.declared.answer.Span.{Span}
 use Rattle.text.proofs.Runs.{front-more, front-stop, run-is, run-fits, run-none, run-more, run-at-end}
 use Rattle.text.proofs.Lines.{part-ends, part-first}
@@ -85,6 +85,10 @@ module _ (line : List ℕ) (at : ℕ) where
   unfolding within
   word-length = simp (length-take, length-drop) (omega (arith, word-to))
 
+  pub word-at : (k : ℕ) → k < wordAt line at .to - wordAt line at .from → getD (within line (wordAt line at)) k 0 ≡ getD line (wordAt line at .from + k) 0
+  unfolding within
+  word-at k h = rw (getD-take (wordAt line at .to - wordAt line at .from) (drop (wordAt line at .from) line) k 0 h, getD-drop (wordAt line at .from) line k 0)
+
   words-from : wordsOf (drop at line) ≡ wordsOf (drop (wordAt line at .from) line)
   words-from =
       min-cases (length line) at _
@@ -114,3 +118,30 @@ module _ (line : List ℕ) (at : ℕ) where
   -- an empty span: there is no word left
   pub words-end : wordAt line at .to ≤ wordAt line at .from → wordsOf (drop at line) ≡ []
   words-end h = words-from ∙ end-by (ltb (wordAt line at .from) (length line)) refl h
+
+-- ---- a word that is a name
+
+same-by : (x y : ℕ) (a b : List ℕ) (v : Bool) → eqb x y ≡ v → (v && sameAs a b) ≡ true → (sameAs a b ≡ true → a ≡ b) → x ∷ a ≡ y ∷ b
+same-by x y a b true e h ih = rw (eqb-true x y e, ih h)
+same-by x y a b false e h ih = absurd (false≢true h)
+
+pub same-true : (a b : List ℕ) → sameAs a b ≡ true → a ≡ b
+unfolding sameAs
+same-true [] [] e = refl
+same-true [] (y ∷ b) e = absurd (false≢true e)
+same-true (x ∷ a) [] e = absurd (false≢true e)
+same-true (x ∷ a) (y ∷ b) e = same-by x y a b (eqb x y) refl e (same-true a b)
+
+pub same-refl : (a : List ℕ) → sameAs a a ≡ true
+unfolding sameAs
+same-refl [] = refl
+same-refl (x ∷ a) = rw (eq-eqb x x refl) (same-refl a)
+
+pub same-of : {a b : List ℕ} → a ≡ b → sameAs a b ≡ true
+same-of {a} {b} e = rw e (same-refl b)
+
+-- two tests that follow from one another are one
+pub one-test : (r s : Bool) → (r ≡ true → s ≡ true) → (s ≡ true → r ≡ true) → r ≡ s
+one-test true s f g = sym (f refl)
+one-test false true f g = g refl
+one-test false false f g = refl

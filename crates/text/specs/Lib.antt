@@ -1,5 +1,6 @@
--- The definitions: text laid into a buffer, lines and words, numbers.
+-- The definitions: text laid into a buffer, lines and words, numbers, bytes in hex.
 pub mod Put
 pub mod Line
 pub mod Number
+pub mod Hex
 pub mod Signed

@@ -2,7 +2,7 @@
 use Prim.Native.Nat.{ℕ, suc, _+_, _-_, _≤_, min}
 use mathlib.Core.Path.{_≡_}
 use mathlib.Core.List.{List, [], _∷_}
-use mathlib.Core.Bool.{Bool, not, _||_}
+use mathlib.Core.Bool.{Bool, true, false, not, _||_, _&&_}
 use lib.Dec.{eqb}
 use lib.ListN.{length, take, drop}
 use Rattle.lists.specs.Lists.{pick}
@@ -47,7 +47,14 @@ linesOf s = parts newline s
 unfoldable pub wordsOf : List ℕ → List (List ℕ)
 wordsOf line = full (parts blank line)
 
--- ---- the same by places
+-- the word is the name, byte for byte
+unfoldable pub sameAs : List ℕ → List ℕ → Bool
+sameAs [] [] = true
+sameAs [] (b ∷ t) = false
+sameAs (a ∷ s) [] = false
+sameAs (a ∷ s) (b ∷ t) = eqb a b && sameAs s t
+
+-- ---- lines and words by their places
 
 -- how many bytes at the front the test takes
 unfoldable pub front : (ℕ → Bool) → List ℕ → ℕ

@@ -8,8 +8,11 @@ use Rattle.lists.specs.Lists.{pick}
 use Rattle.text.specs.declared.answer.Number.{Number}
 use Rattle.text.specs.declared.answer.Number.the-variants.{Is, Not}
 
+unfoldable pub between : ℕ → ℕ → ℕ → Bool
+between low high b = leb low b && leb b high
+
 unfoldable pub isDigit : ℕ → Bool
-isDigit b = leb 48 b && leb b 57
+isDigit b = between 48 57 b
 
 unfoldable pub allDigits : List ℕ → Bool
 allDigits [] = true

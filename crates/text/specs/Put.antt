@@ -19,7 +19,7 @@ pub record Put (t : List ℕ) (at : ℕ) (before after : List ℕ) (r : ℕ) : T
 -- n in decimal, of at most k + 1 digits
 unfoldable pub decimalIn : ℕ → ℕ → List ℕ
 decimalIn zero n = (48 + n % 10) ∷ []
-decimalIn (suc k) n = pick (ltb n 10) [] (decimalIn k (n / 10)) ++ ((48 + n % 10) ∷ [])
+decimalIn (suc k) n = let more = decimalIn k (n / 10) in pick (ltb n 10) [] more ++ ((48 + n % 10) ∷ [])
 
 -- n in decimal
 unfoldable pub decimal : ℕ → List ℕ

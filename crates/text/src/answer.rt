@@ -11,3 +11,9 @@ pub enum Number {
     Is(u32),
     Not,
 }
+
+// What a word says as bytes in hex: how many they are.
+pub enum Hex {
+    Bytes(usize),
+    Not,
+}

@@ -1,13 +1,19 @@
 // Lines of text: words, numbers and bytes read from a line, and decimal and hex laid into a lent buffer.
 mod answer;
+mod hex;
 mod line;
 mod numbers;
 mod put;
 mod signed;
 
+pub use answer::Hex;
 pub use answer::Number;
 pub use answer::Span;
+pub use hex::hex_bytes;
+pub use hex::put_hex;
+pub use hex::put_hex6;
 pub use line::line_end;
+pub use line::same;
 pub use line::word;
 pub use numbers::number;
 pub use put::put_byte;

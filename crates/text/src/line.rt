@@ -1,6 +1,6 @@
 // Lines of an input and words of a line, by their places.
 ghost use mathlib.Core.Path.{_≡_};
-ghost use Rattle.text.specs.Line.{blank, inWord, runEnd, LineTo, NextWord};
+ghost use Rattle.text.specs.Line.{blank, inWord, runEnd, LineTo, NextWord, sameAs};
 use crate::answer::Span;
 
 // The place of the first newline at or after at, or the input's length.
@@ -26,6 +26,14 @@ pub fn word(line: &[u8], at: usize) -> Span
     Span { from, to }
 }
 
+// The word is the name, byte for byte.
+pub fn same(word: &[u8], name: &[u8]) -> bool
+    ensures { λ r. ⌜ r ≡ sameAs (now (word .entry)) (now (name .entry)) ⌝ }
+{
+    check::same(word, name)
+}
+
+// A space, a tab or a carriage return.
 fn is_blank(b: u8) -> bool
     ensures { λ r. ⌜ r ≡ blank b ⌝ }
 {

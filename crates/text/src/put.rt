@@ -39,7 +39,7 @@ pub fn put_decimal(out: &mut [u8], at: usize, n: u32) -> usize
 }
 
 // A minus sign, and the decimal digits of n.
-pub fn put_minus(out: &mut [u8], at: usize, n: u32) -> usize
+pub(crate) fn put_minus(out: &mut [u8], at: usize, n: u32) -> usize
     ensures { λ r. ⌜ Put (45 ∷ decimal n) at (now (out .entry)) (now (out .exit)) r ⌝ }
 {
     let next = put_byte(out, at, 45);

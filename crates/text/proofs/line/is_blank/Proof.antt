@@ -1,16 +1,16 @@
 -- A byte is a blank: each of the three tests.
-use borrow.Author.Tests.{eq-eqb, ne-eqb}
+use borrow.Author.Tests.{ne-eqb}
 use Rattle.text.specs.Line.{blank}
 use Rattle.text.proofs.line.is_blank.Statement.{statement}
 use Rattle.text.proofs.line.is_blank.Tie as tie
 
 returns : tie.Need-returns
 unfolding blank
-returns c = rw (eq-eqb _ _ (c .if1 .taken))
+returns c = rw (c .if1 .taken)
 
 returns-2 : tie.Need-returns-2
 unfolding blank
-returns-2 c = rw (ne-eqb _ _ (c .before .if1 .left), eq-eqb _ _ (c .if2 .taken))
+returns-2 c = rw (c .if2 .taken)
 
 returns-3 : tie.Need-returns-3
 unfolding blank

@@ -1,5 +1,5 @@
 -- A word read digit by digit: what is still to be read decides.
-use Prim.Native.Nat.{_<_, _-_}
+use Prim.Native.Nat.{_<_, _+_, _-_}
 use native.Mathlib.Omega.{arith}
 use mathlib.Core.Path.{_≡_, sym, _∙_}
 use lib.ListN.{length, drop}
@@ -19,7 +19,7 @@ returns : tie.Need-returns Inv-loop μ-loop
 returns c = sym (number-none _ _ (c .if1 .taken))
 
 returns-2 : tie.Need-returns-2 Inv-loop μ-loop
-returns-2 c = sym (number-long _ _ (c .if2 .taken))
+returns-2 c = sym (number-long (c .before .before .args .most) (c .before .before .args .word .now) (omega arith))
 
 loop-holds : tie.Need-loop-holds Inv-loop μ-loop
 loop-holds c = (sym (number-judged _ _ (omega arith) (omega arith)), omega arith)
@@ -29,13 +29,17 @@ shared-slice-read-b c = search needs
 
 returns-3 : tie.Need-returns-3 Inv-loop μ-loop
 returns-3 c =
-    let w = c .before .before .before .before .before .before .args .word .now in let i = c .before .before .before .loop .i in let v = c .before .before .before .loop .value in
-    sym (judged-low w i (omega arith) v (c .if3 .taken)) ∙ c .before .before .before .loop .inv .0
+    let w = c .before .before .before .before .before .before .args .word .now in
+    let i = c .before .before .before .loop .i in
+    let v = c .before .before .before .loop .value in
+    sym (judged-low w i (omega arith) v (omega arith)) ∙ c .before .before .before .loop .inv .0
 
 returns-4 : tie.Need-returns-4 Inv-loop μ-loop
 returns-4 c =
-    let w = c .before .before .before .before .before .before .before .args .word .now in let i = c .before .before .before .before .loop .i in let v = c .before .before .before .before .loop .value in
-    sym (judged-high w i (omega arith) v (c .if4 .taken)) ∙ c .before .before .before .before .loop .inv .0
+    let w = c .before .before .before .before .before .before .before .args .word .now in
+    let i = c .before .before .before .before .loop .i in
+    let v = c .before .before .before .before .loop .value in
+    sym (judged-high w i (omega arith) v (omega arith)) ∙ c .before .before .before .before .loop .inv .0
 
 mul-value : tie.Need-mul-value Inv-loop μ-loop
 mul-value c = search needs
@@ -48,8 +52,10 @@ add-value c = search needs
 
 returns-5 : tie.Need-returns-5 Inv-loop μ-loop
 returns-5 c =
-    let w = c .before .before .before .before .before .before .before .before .args .word .now in let i = c .before .before .before .before .before .loop .i in let v = c .before .before .before .before .before .loop .value in
-    sym (judged-digit w i (omega arith) v (omega arith) (omega arith) ∙ judged-big _ _ (c .if5 .taken)) ∙ c .before .before .before .before .before .loop .inv .0
+    let w = c .before .before .before .before .before .before .before .before .args .word .now in
+    let i = c .before .before .before .before .before .loop .i in
+    let v = c .before .before .before .before .before .loop .value in
+    sym (judged-digit w i (omega arith) v (omega arith) (omega arith) ∙ judged-big _ (drop (i + 1) w) (omega arith)) ∙ c .before .before .before .before .before .loop .inv .0
 
 add-i : tie.Need-add-i Inv-loop μ-loop
 add-i c = search needs

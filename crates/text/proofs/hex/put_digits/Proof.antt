@@ -1,0 +1,37 @@
+-- The digits that the kit makes, put in upper case.
+use Rattle.text.proofs.Laid.{put-of}
+use Rattle.text.proofs.HexMade.{as-the-kit}
+use borrow.Author.Needs.{needs}
+use Rattle.text.proofs.hex.put_digits.Statement.{statement}
+use Rattle.text.proofs.hex.put_digits.Tie as tie
+
+hex-requires : tie.Need-hex-requires
+hex-requires c κs = search needs
+
+array-share-prefix-text : tie.Need-array-share-prefix-text
+array-share-prefix-text c = search needs
+
+slice-aggregate-put-upper : tie.Need-slice-aggregate-put-upper
+slice-aggregate-put-upper c = search needs
+
+put-upper-requires : tie.Need-put-upper-requires
+put-upper-requires c κs = search needs
+
+same-length : tie.Need-same-length
+same-length c = search needs
+
+returns : tie.Need-returns
+returns c =
+    let made = c .before .before .before .before .before .hex .ensures in
+    put-of (as-the-kit _ _ _ _ (c .before .before .before .before .before .before .before .before .pre) (made .1 .0) (made .1 .1)) (c .before .before .put-upper .ensures)
+
+pub put-digits-spec : {M : Type 1} → statement M
+put-digits-spec =
+    tie.close
+    (tie.spec
+    hex-requires
+    array-share-prefix-text
+    slice-aggregate-put-upper
+    put-upper-requires
+    same-length
+    returns)

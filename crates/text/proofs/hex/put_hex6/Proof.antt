@@ -1,0 +1,18 @@
+-- The six low digits: those above them change none.
+use Rattle.text.proofs.Laid.{put-of}
+use Rattle.text.proofs.HexMade.{hex-low}
+use borrow.Author.Needs.{needs}
+use Rattle.text.proofs.hex.put_hex6.Statement.{statement}
+use Rattle.text.proofs.hex.put_hex6.Tie as tie
+
+put-digits-requires : tie.Need-put-digits-requires
+put-digits-requires c κs = search needs
+
+same-length : tie.Need-same-length
+same-length c = search needs
+
+returns : tie.Need-returns
+returns c = put-of (hex-low (c .before .before .before .before .before .args .n)) (c .before .before .put-digits .ensures)
+
+pub put-hex6-spec : {M : Type 1} → statement M
+put-hex6-spec = tie.close (tie.spec put-digits-requires same-length returns)
