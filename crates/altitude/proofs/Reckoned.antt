@@ -8,9 +8,9 @@ use mathlib.Core.Bool.{Bool, true, false}
 use lib.Bits.{bitXor}
 use lib.Dec.{eqb}
 use lib.ListN.{getD}
-use Rattle.lists.specs.Lists.{pick, allBelow}
+use Rattle.lists.specs.Lists.{pick, allBelow, spelled}
 use Rattle.lists.proofs.Below.{equal-below, less-below}
-use Rattle.altitude.specs.Code.{C1, A1, C2, A2, C4, A4, B1, B2, D2, B4, D4, spelled, grayValue, eleven, eight, fiveHundreds, patternOf, group, hundreds}
+use Rattle.altitude.specs.Code.{C1, A1, C2, A2, C4, A4, B1, B2, D2, B4, D4, grayValue, eleven, eight, fiveHundreds, patternOf, group, hundreds}
 
 -- the code's way back from Gray code, tried on all 256 numbers of eight bits
 abbrev pub folded : ℕ → ℕ

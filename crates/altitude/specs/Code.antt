@@ -4,7 +4,7 @@ use Prim.Native.Nat.{ℕ, zero, suc, _+_, _-_, _*_, _/_, _%_, _^_}
 use mathlib.Core.List.{List, [], _∷_}
 use lib.Dec.{eqb, ltb}
 use lib.IntN.{ℤ, subℕ}
-use Rattle.lists.specs.Lists.{pick}
+use Rattle.lists.specs.Lists.{pick, spelled}
 use Rattle.altitude.specs.declared.code.Altitude.{Altitude}
 use Rattle.altitude.specs.declared.code.Altitude.the-variants.{Feet, None, Metric, Range, Illegal}
 
@@ -54,11 +54,6 @@ abbrev pub D4 : ℕ → ℕ
 D4 ac = bitAt 0 ac
 
 -- ---- the 25 ft form: 25 × N − 1000
-
--- the number that bits spell after n, first the most significant
-abbrev pub spelled : ℕ → List ℕ → ℕ
-spelled n [] = n
-spelled n (b ∷ bs) = spelled (n * 2 + b) bs
 
 -- N: the eleven bits besides M and Q
 unfoldable pub eleven : ℕ → ℕ

@@ -1,6 +1,7 @@
 -- Definitions on tests and lists of any element type, for contracts.
-use Prim.Native.Nat.{ℕ, zero, suc, _+_}
+use Prim.Native.Nat.{ℕ, zero, suc, _+_, _*_}
 use mathlib.Core.Bool.{Bool, true, false}
+use mathlib.Core.List.{List, [], _∷_}
 
 -- one of two values, by a test
 abbrev pub pick : {A : Type 0} → Bool → A → A → A
@@ -16,3 +17,8 @@ allBelow p (suc n) = pick (p n) (allBelow p n) false
 unfoldable pub countBelow : (ℕ → Bool) → ℕ → ℕ
 countBelow p zero = 0
 countBelow p (suc n) = pick (p n) 1 0 + countBelow p n
+
+-- the number that bits spell after n, first the most significant
+abbrev pub spelled : ℕ → List ℕ → ℕ
+spelled n [] = n
+spelled n (b ∷ bs) = spelled (n * 2 + b) bs
