@@ -9,3 +9,4 @@ pub mod HexMade
 pub mod HexRead
 mod Examples
 pub mod Signs
+pub mod Nth

@@ -89,7 +89,7 @@ module _ (line : List ℕ) (at : ℕ) where
   unfolding within
   word-at k h = rw (getD-take (wordAt line at .to - wordAt line at .from) (drop (wordAt line at .from) line) k 0 h, getD-drop (wordAt line at .from) line k 0)
 
-  words-from : wordsOf (drop at line) ≡ wordsOf (drop (wordAt line at .from) line)
+  pub words-from : wordsOf (drop at line) ≡ wordsOf (drop (wordAt line at .from) line)
   words-from =
       min-cases (length line) at _
       (λ h e. rw (from-is, run-none blank line at h, drop-of-length-le line h, drop-length line))

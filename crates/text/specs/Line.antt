@@ -4,7 +4,7 @@ use mathlib.Core.Path.{_≡_}
 use mathlib.Core.List.{List, [], _∷_}
 use mathlib.Core.Bool.{Bool, true, false, not, _||_, _&&_}
 use lib.Dec.{eqb}
-use lib.ListN.{length, take, drop}
+use lib.ListN.{length, getD, take, drop}
 use Rattle.lists.specs.Lists.{pick}
 use Rattle.text.specs.declared.answer.Span.{Span}
 
@@ -90,5 +90,11 @@ pub record LineTo (s : List ℕ) (at r : ℕ) : Type 0 where
 
 pub record NextWord (line : List ℕ) (at : ℕ) (r : Span) : Type 0 where
   pub is : r ≡ wordAt line at
+  pub order : r .from ≤ r .to
+  pub fits : r .to ≤ length line
+
+-- the k-th word of a line, from 0: the empty one where there is none
+pub record NthWord (line : List ℕ) (k : ℕ) (r : Span) : Type 0 where
+  pub text : within line r ≡ getD (wordsOf line) k []
   pub order : r .from ≤ r .to
   pub fits : r .to ≤ length line

@@ -1,5 +1,6 @@
 // Lines of text: words, numbers and bytes read from a line, and decimal and hex laid into a lent buffer.
 mod answer;
+mod count;
 mod hex;
 mod line;
 mod numbers;
@@ -9,6 +10,8 @@ mod signed;
 pub use answer::Hex;
 pub use answer::Number;
 pub use answer::Span;
+pub use count::nth_word;
+pub use count::word_count;
 pub use hex::hex_bytes;
 pub use hex::put_hex;
 pub use hex::put_hex6;
