@@ -21,7 +21,7 @@ use Rattle.altitude.specs.declared.code.Altitude.the-variants.{Feet, Non
 use Rattle.altitude.specs.declared.lines.Lined.{Lined}
 use Rattle.altitude.specs.Code.{Form, eleven, fiveHundreds, group, hundreds, feetBy25, feetBy100, formOf, readAs, altitude, numberOf}
 use Rattle.altitude.specs.Code.Form.{allZero, metric, by25, by100, illegal}
-use Rattle.altitude.specs.Lines.{valueText, codeText, numberText, wordsText, lineText, linesText, feetText, TookLine}
+use Rattle.altitude.specs.Lines.{valueText, answerText, codeText, numberText, wordsText, lineText, linesText, feetText, TookLine}
 use Rattle.altitude.proofs.Reckoned.{eleven-lt, five-lt, hundreds-le}
 
 -- ---- the length of a line
@@ -54,7 +54,7 @@ number-short Range = decimal-length 1 2 (omega arith)
 number-short Illegal = decimal-length 1 18 (omega arith)
 
 code-short : (ac : ℕ) → ac < 2 ^ 32 → length (codeText ac) ≤ 26
-unfolding codeText altitude
+unfolding codeText answerText altitude
 code-short ac h =
     simp length-append (omega (arith, decimal-fits ac h, number-short (altitude ac), said-short (ltb 8191 ac) ac))
 

@@ -16,7 +16,7 @@ use Rattle.text.specs.declared.answer.Span.{Span}
 use Rattle.altitude.specs.declared.code.Altitude.{Altitude}
 use Rattle.altitude.specs.declared.code.Altitude.the-variants.{Feet}
 use Rattle.altitude.specs.Code.{altitude, numberOf}
-use Rattle.altitude.specs.Lines.{valueText, codeText, noCode, numberText, wordsText, lineText}
+use Rattle.altitude.specs.Lines.{valueText, answerText, codeText, noCode, numberText, wordsText, lineText}
 
 -- ---- a code's line
 
@@ -25,10 +25,15 @@ pub feet-put : {a : Altitude} {z : ℤ} {at r q p : ℕ} {l m o n : List ℕ} �
 unfolding valueText
 feet-put e x y w = rw e (put-then x (put-then y w))
 
-pub code-put : (ac : ℕ) {k : ℕ} {a : Altitude} {r q p s : ℕ} {l m o n h : List ℕ} → a ≡ altitude ac → k ≡ numberOf a
-    → Put (decimal ac) 0 l m r → Put (32 ∷ []) r m o q → Put (decimal k) q o n p → Put (valueText a) p n h s → Put (codeText ac) 0 l h s
+pub answer-put : (ac : ℕ) {k : ℕ} {a : Altitude} {at r q : ℕ} {l m o : List ℕ} → a ≡ altitude ac → k ≡ numberOf a
+    → Put (decimal k) at l m r → Put (valueText a) r m o q → Put (answerText (altitude ac)) at l o q
+unfolding answerText
+answer-put ac e f x y = rw (← e, ← f) (put-then x y)
+
+pub code-put : (ac : ℕ) {r q p : ℕ} {l m o n : List ℕ} → Put (decimal ac) 0 l m r → Put (32 ∷ []) r m o q → Put (answerText (altitude ac)) q o n p
+    → Put (codeText ac) 0 l n p
 unfolding codeText
-code-put ac e f x y w v = rw (← e, ← f) (put-then x (put-then y (put-then w v)))
+code-put ac x y w = put-then x (put-then y w)
 
 -- ---- a line's words
 

@@ -1,7 +1,7 @@
 -- The altitude code of Annex 10: what the 13 bits of AC say. The bits are, first the most significant,
 -- C1 A1 C2 A2 C4 A4 M B1 Q B2 D2 B4 D4.
 use Prim.Native.Nat.{ℕ, zero, suc, _+_, _-_, _*_, _/_, _%_, _^_}
-use mathlib.Core.List.{List, [], _∷_}
+use mathlib.Core.List.{[], _∷_}
 use lib.Dec.{eqb, ltb}
 use lib.IntN.{ℤ, subℕ}
 use Rattle.lists.specs.Lists.{pick, spelled}

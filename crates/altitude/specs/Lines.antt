@@ -22,9 +22,13 @@ valueText Metric = 32 ∷ 109 ∷ 101 ∷ 116 ∷ 114 ∷ 105 ∷ 99 ∷ 10 ∷ 
 valueText Range = 10 ∷ []
 valueText Illegal = 10 ∷ []
 
--- the code, the answer's number, and the value
+-- an answer's number and its value
+unfoldable pub answerText : Altitude → List ℕ
+answerText a = decimal (numberOf a) ++ valueText a
+
+-- the code and its answer
 unfoldable pub codeText : ℕ → List ℕ
-codeText ac = decimal ac ++ (32 ∷ (decimal (numberOf (altitude ac)) ++ valueText (altitude ac)))
+codeText ac = decimal ac ++ (32 ∷ answerText (altitude ac))
 
 -- "- 2", for a line that is no number of one to nine digits
 abbrev pub noCode : List ℕ

@@ -7,3 +7,4 @@ pub use code::read;
 pub use lines::Lined;
 pub use lines::feet_line;
 pub use lines::number;
+pub use lines::put_answer;

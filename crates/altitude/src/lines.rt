@@ -1,8 +1,8 @@
 // The lines of the program feet, as their very bytes.
 ghost use mathlib.Core.Path.{_≡_};
 ghost use Rattle.text.specs.Put.{Put};
-ghost use Rattle.altitude.specs.Code.{numberOf};
-ghost use Rattle.altitude.specs.Lines.{valueText, codeText, lineText, TookLine};
+ghost use Rattle.altitude.specs.Code.{altitude, numberOf};
+ghost use Rattle.altitude.specs.Lines.{valueText, answerText, codeText, lineText, TookLine};
 use crate::code::Altitude;
 use crate::code::read;
 use text::Number;
@@ -43,15 +43,22 @@ fn put_value(out: &mut [u8], at: usize, a: Altitude) -> usize
     }
 }
 
+// The answer for a code: its number, its value and the line's end.
+pub fn put_answer(out: &mut [u8], at: usize, ac: u32) -> usize
+    ensures { λ r. ⌜ Put (answerText (altitude ac)) at (now (out .entry)) (now (out .exit)) r ⌝ }
+{
+    let a = read(ac);
+    let value = text::put_decimal(out, at, number(a));
+    put_value(out, value, a)
+}
+
 // The line of a code.
 fn put_code(out: &mut [u8], ac: u32) -> usize
     ensures { λ r. ⌜ Put (codeText ac) 0 (now (out .entry)) (now (out .exit)) r ⌝ }
 {
-    let a = read(ac);
     let gap = text::put_decimal(out, 0, ac);
     let answer = text::put_byte(out, gap, 32);
-    let value = text::put_decimal(out, answer, number(a));
-    put_value(out, value, a)
+    put_answer(out, answer, ac)
 }
 
 // What a line prints.
