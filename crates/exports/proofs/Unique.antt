@@ -1,0 +1,14 @@
+-- An outcome is unique: a number and a buffer that say the same outcome are the same.
+-- Assumes nothing.
+use mathlib.Core.Path.{_≡_, ap}
+use mathlib.Core.List.{List}
+use Prim.Native.Nat.{ℕ, _/_, _%_}
+use native.Mathlib.Omega.{arith}
+use Rattle.parity.specs.Answers.{Outcome}
+use Rattle.exports.specs.Packed.{opened}
+
+pub opened-one : (r q : ℕ) (o p : List ℕ) → opened r o ≡ opened q p → (r ≡ q) × (o ≡ p)
+opened-one r q o p e =
+    let n : r / 4294967296 ≡ q / 4294967296 = ap (λ (x : Outcome). x .number) e in
+    let f : r % 4294967296 ≡ q % 4294967296 = ap (λ (x : Outcome). x .flips) e in
+    (omega arith, ap (λ (x : Outcome). x .output) e)

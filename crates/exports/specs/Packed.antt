@@ -1,0 +1,20 @@
+-- An answer as one number of 64 bits: document 01's number above, the value or the flips in the low 32 bits.
+-- Assumes nothing: these are definitions.
+use Prim.Native.Nat.{ℕ, _+_, _*_, _/_, _%_}
+use mathlib.Core.List.{List}
+use mathlib.Core.Path.{_≡_}
+use Rattle.parity.specs.declared.answers.Fix.{Fix}
+use Rattle.parity.specs.Answers.{Answer, Outcome, numberOf, flipsOf}
+
+-- an answer's number and value
+abbrev pub packed : Answer → ℕ
+packed a = a .number * 4294967296 + a .value
+
+-- the outcome that a number and the buffer after the call say
+abbrev pub opened : ℕ → List ℕ → Outcome
+opened r out = record { number = r / 4294967296; flips = r % 4294967296; output = out }
+
+-- p has a correction's number above and its flips below
+pub record Packs (p : ℕ) (f : Fix) : Type 0 where
+  pub number : p / 4294967296 ≡ numberOf f
+  pub flips : p % 4294967296 ≡ flipsOf f

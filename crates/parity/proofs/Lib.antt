@@ -1,0 +1,14 @@
+pub mod Bits
+pub mod Linear
+pub mod Sum
+pub mod Match
+pub mod Kept
+pub mod Choosing
+pub mod Written
+pub mod Judged
+pub mod Product
+pub mod Flipped
+pub mod Found
+pub mod Laws
+pub mod Unique
+pub mod Outcomes

@@ -1,0 +1,78 @@
+-- `parity::correction::rebuild` meets its contract. The invariant: j bytes of the output are written.
+-- Assumes nothing.
+use mathlib.Core.Path.{_≡_, refl}
+use Prim.Native.Nat.{_-_, _≤_}
+use native.Mathlib.Omega.{arith}
+use lib.ListN.{length, length-set}
+use Rattle.parity.specs.Messages.{bits}
+use Rattle.parity.specs.Correction.{matching}
+use Rattle.parity.specs.Steps.{first}
+use Rattle.parity.proofs.Bits.{bits-length}
+use Rattle.parity.proofs.Choosing.{left-first}
+use Rattle.parity.proofs.Written.{Written, written-start, written-step, written-end}
+use Rattle.parity.proofs.correction.rebuild.Statement.{statement}
+use borrow.Author.Needs.{needs}
+use Rattle.parity.proofs.correction.rebuild.Tie as tie
+
+abbrev Inv-loop : tie.InvT-loop
+Inv-loop msg marks syns many want out₀ k₀ left₀ flips₀ j₀ out k left flips j =
+    (j ≤ length msg) × (length out ≡ length out₀)
+    × Written (bits marks) syns msg (first (matching want (bits marks))) j k left flips out
+
+abbrev μ-loop : tie.MeasureT-loop
+μ-loop msg marks syns many want out₀ k₀ left₀ flips₀ j₀ out k left flips j = length msg - j
+
+loop-holds : tie.Need-loop-holds Inv-loop μ-loop
+loop-holds c = (omega arith, refl, written-start _ _ _ _ _ _ _ (c .before .before .before .pre .3))
+
+choose-byte-requires : tie.Need-choose-byte-requires Inv-loop μ-loop
+choose-byte-requires c κs = (omega arith, omega arith, left-first _ _ _ _ _ _ (c .before .loop .inv .2 .left))
+
+shared-slice-read-out : tie.Need-shared-slice-read-out Inv-loop μ-loop
+shared-slice-read-out c = omega arith
+
+cast-out : tie.Need-cast-out Inv-loop μ-loop
+cast-out c = omega arith
+
+slice-write-out : tie.Need-slice-write-out Inv-loop μ-loop
+slice-write-out c = omega arith
+
+add-flips : tie.Need-add-flips Inv-loop μ-loop
+add-flips c = omega arith
+
+add-j : tie.Need-add-j Inv-loop μ-loop
+add-j c = omega arith
+
+loop-less : tie.Need-loop-less Inv-loop μ-loop
+loop-less c = omega arith
+
+loop-again : tie.Need-loop-again Inv-loop μ-loop
+loop-again c =
+    let l = c .before .before .before .before .before .loop in
+    (omega arith, simp length-set (omega arith), written-step _ _ _ _ _ _ _ _ _ _ _ _ _ (omega arith) (omega arith) (l .inv .2) (c .before .before .before .choose-byte .ensures))
+
+same-length : tie.Need-same-length Inv-loop μ-loop
+same-length c = search needs
+
+returns : tie.Need-returns Inv-loop μ-loop
+returns c =
+    let a = c .before .before .before .before .before .args in
+    written-end _ _ _ _ _ _ _ _ _ (omega (arith, bits-length (a .marks .now))) (omega arith) (omega arith) (c .before .loop .inv .2)
+
+pub rebuild-spec : {M : Type 1} → statement M
+rebuild-spec =
+    tie.close
+    (tie.spec
+    Inv-loop
+    μ-loop
+    loop-holds
+    choose-byte-requires
+    shared-slice-read-out
+    cast-out
+    slice-write-out
+    add-flips
+    add-j
+    loop-less
+    loop-again
+    same-length
+    returns)

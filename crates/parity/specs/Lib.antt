@@ -1,0 +1,8 @@
+pub mod Answers
+pub mod Messages
+pub mod Division
+pub mod Overlays
+pub mod Correction
+pub mod Corrected
+pub mod Steps
+pub mod Examples

@@ -1,0 +1,27 @@
+// The lengths that a message and its buffers may have.
+ghost use mathlib.Core.Path.{_≡_};
+ghost use Rattle.parity.specs.Messages.{whole};
+ghost use Rattle.parity.specs.Correction.{sized};
+
+// Whether a number of bytes is that of a message.
+pub(crate) fn whole(n: usize) -> bool
+    ensures { λ r. ⌜ r ≡ whole n ⌝ }
+{
+    if n == 7 {
+        return true;
+    }
+    n == 14
+}
+
+// Whether a message has one of the two lengths and its mark and output buffers have it too.
+pub(crate) fn fitting(n: usize, marks: usize, out: usize) -> bool
+    ensures { λ r. ⌜ r ≡ sized n marks out ⌝ }
+{
+    if marks != n {
+        return false;
+    }
+    if out != n {
+        return false;
+    }
+    whole(n)
+}

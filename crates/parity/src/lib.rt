@@ -1,0 +1,16 @@
+// Parity and correction of document 01: remainders, overlays, and correction by marked bits.
+mod answers;
+mod correction;
+mod division;
+mod lengths;
+mod marks;
+mod overlay;
+mod search;
+mod syndrome;
+
+pub use answers::Fix;
+pub use answers::Reckoned;
+pub use correction::correct;
+pub use division::remainder;
+pub use overlay::code_overlay;
+pub use overlay::uplink_overlay;
