@@ -2,16 +2,17 @@
 use Prim.Native.Nat.{ℕ, suc, _+_, _-_, _*_, _/_, _%_, _<_}
 use native.Mathlib.Omega.{arith}
 use mathlib.Core.Path.{_≡_, refl, sym, ap, _∙_}
-use mathlib.Core.Bool.{Bool, true, false, _&&_, false≢true}
+use mathlib.Core.Bool.{Bool, true, _&&_}
 use mathlib.Core.List.{[], _∷_}
 use lib.Bits.{bitXor}
 use lib.Dec.{eqb, ltb}
 use lib.IntN.{subℕ}
 use lib.ListN.{getD}
+use Rattle.lists.proofs.Tests.{and-true}
 use Rattle.lists.proofs.Signed.{same-difference, difference-same}
 use borrow.Author.Tests.{eqb-true, ltb-true}
-use Rattle.lists.specs.Lists.{pick, allBelow, countBelow}
-use Rattle.lists.proofs.Below.{all-below, equal-below, less-below}
+use Rattle.lists.specs.Lists.{pick, every, countBelow}
+use Rattle.lists.proofs.Every.{every-at, equal-below, less-below}
 use Rattle.altitude.specs.Code.{Form, formOf, group, hundreds, fiveHundreds, eight, grayValue, feetBy100}
 use Rattle.altitude.specs.Code.Form.{allZero, metric, by25, by100, illegal}
 use Rattle.altitude.specs.Claims.{nth, differing, Says, HundredFootCode}
@@ -41,19 +42,19 @@ hundredCode k =
 -- ---- computed over all of them
 
 code-lt : (k : ℕ) → k < 1280 → hundredCode k < 8192
-unfolding allBelow hundredCode hundreds
+unfolding every hundredCode hundreds
 code-lt k h = less-below hundredCode 8192 1280 refl k h
 
 code-form : (k : ℕ) → k < 1280 → nth (formOf (hundredCode k)) ≡ 3
-unfolding allBelow hundredCode hundreds formOf group
+unfolding every hundredCode hundreds formOf group
 code-form k h = equal-below (λ x. nth (formOf (hundredCode x))) (λ x. 3) 1280 refl k h
 
 code-above : (k : ℕ) → k < 1280 → above (hundredCode k) ≡ k + 1
-unfolding allBelow hundredCode hundreds group fiveHundreds eight grayValue
+unfolding every hundredCode hundreds group fiveHundreds eight grayValue
 code-above k h = equal-below (λ x. above (hundredCode x)) (λ x. x + 1) 1280 refl k h
 
 code-next : (k : ℕ) → k < 1279 → differing (hundredCode k) (hundredCode (suc k)) ≡ 1
-unfolding allBelow countBelow hundredCode hundreds differing
+unfolding every countBelow hundredCode hundreds differing
 code-next k h = equal-below (λ x. differing (hundredCode x) (hundredCode (suc x))) (λ x. 1) 1279 refl k h
 
 -- what is tried of a code of the 100 ft form: its hundred is in reach, and that hundred's code is the code
@@ -61,14 +62,10 @@ abbrev back : ℕ → Bool
 back ac = pick (eqb (nth (formOf ac)) 3) (eqb (hundredCode (above ac - 1)) ac && (ltb 0 (above ac) && ltb (above ac) 1281)) true
 
 all-back : (ac : ℕ) → ac < 8192 → back ac ≡ true
-unfolding allBelow hundredCode hundreds formOf group fiveHundreds eight grayValue
-all-back ac h = all-below back 8192 refl ac h
+unfolding every hundredCode hundreds formOf group fiveHundreds eight grayValue
+all-back ac h = every-at back 8192 ac refl h
 
 -- ---- from the tests to the claims
-
-both : (a b : Bool) → a && b ≡ true → (a ≡ true) × (b ≡ true)
-both true b h = (refl, h)
-both false b h = absurd (false≢true h)
 
 third : (f : Form) → nth f ≡ 3 → f ≡ by100
 third allZero e = absurd (omega arith)
@@ -83,11 +80,11 @@ module _ (ac : ℕ) (h : ac < 8192) (f : formOf ac ≡ by100) where
   tried = rw (f) at (all-back ac h)
 
   its-code : hundredCode (above ac - 1) ≡ ac
-  its-code = eqb-true (hundredCode (above ac - 1)) ac (both (eqb (hundredCode (above ac - 1)) ac) (ltb 0 (above ac) && ltb (above ac) 1281) tried .0)
+  its-code = eqb-true (hundredCode (above ac - 1)) ac (and-true (eqb (hundredCode (above ac - 1)) ac) (ltb 0 (above ac) && ltb (above ac) 1281) tried .0)
 
   in-reach : (0 < above ac) × (above ac < 1281)
   in-reach =
-      let t = both (ltb 0 (above ac)) (ltb (above ac) 1281) (both (eqb (hundredCode (above ac - 1)) ac) (ltb 0 (above ac) && ltb (above ac) 1281) tried .1) in
+      let t = and-true (ltb 0 (above ac)) (ltb (above ac) 1281) (and-true (eqb (hundredCode (above ac - 1)) ac) (ltb 0 (above ac) && ltb (above ac) 1281) tried .1) in
       (ltb-true 0 (above ac) (t .0), ltb-true (above ac) 1281 (t .1))
 
 feet-is : (ac : ℕ) → feetBy100 ac ≡ subℕ (100 * above ac) 1300

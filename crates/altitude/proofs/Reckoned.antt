@@ -8,8 +8,8 @@ use mathlib.Core.Bool.{Bool, true, false}
 use lib.Bits.{bitXor}
 use lib.Dec.{eqb}
 use lib.ListN.{getD}
-use Rattle.lists.specs.Lists.{pick, allBelow, spelled}
-use Rattle.lists.proofs.Below.{equal-below, less-below}
+use Rattle.lists.specs.Lists.{pick, every, spelled}
+use Rattle.lists.proofs.Every.{equal-below, less-below}
 use Rattle.altitude.specs.Code.{C1, A1, C2, A2, C4, A4, B1, B2, D2, B4, D4, grayValue, eleven, eight, fiveHundreds, patternOf, group, hundreds}
 
 -- the code's way back from Gray code, tried on all 256 numbers of eight bits
@@ -20,16 +20,16 @@ folded g =
     bitXor by2 (by2 / 2 ^ 1)
 
 pub gray-is : (g : ℕ) → g < 256 → folded g ≡ grayValue 8 g
-unfolding allBelow grayValue
+unfolding every grayValue
 gray-is g h = equal-below folded (grayValue 8) 256 refl g h
 
 pub gray-lt : (g : ℕ) → g < 256 → folded g < 256
-unfolding allBelow
+unfolding every
 gray-lt g h = less-below folded 256 256 refl g h
 
 -- tried on all 8,192 codes
 pub eleven-is : (ac : ℕ) → ac < 8192 → ac / 2 ^ 7 * 32 + ac / 2 ^ 5 % 2 * 16 + ac % 16 ≡ eleven ac
-unfolding allBelow eleven
+unfolding every eleven
 eleven-is ac h = equal-below (λ x. x / 2 ^ 7 * 32 + x / 2 ^ 5 % 2 * 16 + x % 16) eleven 8192 refl ac h
 
 -- any eleven bits spell a number below 2048
@@ -47,11 +47,11 @@ abbrev pub patterns : List ℕ
 patterns = 0 ∷ 1 ∷ 3 ∷ 2 ∷ 5 ∷ 0 ∷ 4 ∷ 0 ∷ []
 
 pattern-is : (c : ℕ) → c < 8 → getD patterns c 0 ≡ patternOf c
-unfolding allBelow
+unfolding every
 pattern-is c h = equal-below (λ x. getD patterns x 0) patternOf 8 refl c h
 
 pattern-lt : (c : ℕ) → c < 8 → getD patterns c 0 < 6
-unfolding allBelow
+unfolding every
 pattern-lt c h = less-below (λ x. getD patterns x 0) 6 8 refl c h
 
 module _ (ac : ℕ) where

@@ -2,12 +2,13 @@
 use Prim.Native.Nat.{ℕ, _+_, _-_, _*_, _^_, _≤_, _<_}
 use native.Mathlib.Omega.{arith}
 use mathlib.Core.Path.{_≡_, refl, ap}
-use mathlib.Core.Bool.{Bool, true, false, _&&_, false≢true}
+use mathlib.Core.Bool.{Bool, true, false, _&&_}
 use mathlib.Core.List.{List, [], _∷_}
 use lib.Dec.{leb, ltb}
 use lib.ListN.{length, take, length-append}
 use borrow.Author.Tests.{ltb-true}
 use Rattle.lists.specs.Lists.{pick}
+use Rattle.lists.proofs.Tests.{and-right}
 use Rattle.text.specs.Put.{decimal}
 use Rattle.text.specs.Line.{lineAt, wordsOf}
 use Rattle.text.specs.Number.{allDigits, valueAfter, numberIn}
@@ -58,15 +59,11 @@ unfolding codeText answerText altitude
 code-short ac h =
     simp length-append (omega (arith, decimal-fits ac h, number-short (altitude ac), said-short (ltb 8191 ac) ac))
 
-last-test : (a b : Bool) → a && b ≡ true → b ≡ true
-last-test true b h = h
-last-test false b h = absurd (false≢true h)
-
 read-short : (w : List ℕ) (t : Bool) → (ltb 0 (length w) && leb (length w) 9 && allDigits w && ltb (valueAfter 0 w) (2 ^ 32)) ≡ t
     → length (numberText (pick t (Is (valueAfter 0 w)) Not)) ≤ 32
 unfolding numberText
 read-short w true e =
-    let h = ltb-true (valueAfter 0 w) (2 ^ 32) (last-test (ltb 0 (length w) && leb (length w) 9 && allDigits w) (ltb (valueAfter 0 w) (2 ^ 32)) e) in
+    let h = ltb-true (valueAfter 0 w) (2 ^ 32) (and-right (ltb 0 (length w) && leb (length w) 9 && allDigits w) (ltb (valueAfter 0 w) (2 ^ 32)) e) in
     omega (arith, code-short (valueAfter 0 w) h)
 read-short w false e = omega arith
 

@@ -8,6 +8,22 @@ pub and-true : (a b : Bool) → a && b ≡ true → (a ≡ true) × (b ≡ true)
 and-true true b e = (refl, e)
 and-true false b e = absurd (false≢true e)
 
+pub and-left : (a b : Bool) → a && b ≡ true → a ≡ true
+and-left a b e = and-true a b e .0
+
+pub and-right : (a b : Bool) → a && b ≡ true → b ≡ true
+and-right a b e = and-true a b e .1
+
+pub and-no-left : (a b : Bool) → a ≡ false → a && b ≡ false
+and-no-left a b e = rw e
+
+pub and-no-right : (a b : Bool) → b ≡ false → a && b ≡ false
+and-no-right true b e = e
+and-no-right false b e = refl
+
+pub and-yes : (a b : Bool) → a ≡ true → b ≡ true → a && b ≡ true
+and-yes a b p q = rw (p, q)
+
 pub or-true : (a b : Bool) → a || b ≡ true → (a ≡ true) ⊎ (b ≡ true)
 or-true true b e = inl refl
 or-true false b e = inr e

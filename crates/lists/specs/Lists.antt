@@ -1,6 +1,6 @@
 -- Definitions on tests and lists of any element type, for contracts.
 use Prim.Native.Nat.{ℕ, zero, suc, _+_, _*_}
-use mathlib.Core.Bool.{Bool, true, false}
+use mathlib.Core.Bool.{Bool, true, false, _&&_}
 use mathlib.Core.List.{List, [], _∷_}
 
 -- one of two values, by a test
@@ -8,10 +8,10 @@ abbrev pub pick : {A : Type 0} → Bool → A → A → A
 pick true a b = a
 pick false a b = b
 
--- p holds of every number below n
-unfoldable pub allBelow : (ℕ → Bool) → ℕ → Bool
-allBelow p zero = true
-allBelow p (suc n) = pick (p n) (allBelow p n) false
+-- p holds of 0, 1, …, n - 1
+unfoldable pub every : (ℕ → Bool) → ℕ → Bool
+every p zero = true
+every p (suc n) = every p n && p n
 
 -- how many numbers below n p holds of
 unfoldable pub countBelow : (ℕ → Bool) → ℕ → ℕ

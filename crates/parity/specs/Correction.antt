@@ -1,7 +1,7 @@
 -- Correction: every subset of the marked bits counts, and the outcome goes by how many match.
 -- A subset is a list of bits as long as the message, 1 where the bit is in it: so it reads as a mark buffer does.
 -- Assumes nothing: these are definitions.
-use Prim.Native.Nat.{ℕ, zero, suc, _+_, _*_}
+use Prim.Native.Nat.{ℕ, zero, suc, _+_}
 use mathlib.Core.Bool.{Bool, _&&_}
 use mathlib.Core.List.{List, [], _∷_, _++_, map}
 use lib.Bits.{bitXor}
