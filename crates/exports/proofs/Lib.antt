@@ -1,1 +1,2 @@
+-- The laws of the crate.
 pub mod Unique

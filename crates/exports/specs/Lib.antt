@@ -1,1 +1,2 @@
+-- The definitions: answers packed into one number.
 pub mod Packed

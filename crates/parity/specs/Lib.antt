@@ -1,3 +1,4 @@
+-- The definitions: messages, remainders, overlays, correction, and the starred examples.
 pub mod Answers
 pub mod Messages
 pub mod Division
