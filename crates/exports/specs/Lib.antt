@@ -1,2 +1,3 @@
--- The definitions: answers packed into one number.
+-- The definitions: answers packed into one number, and a plan as rows of numbers.
 pub mod Packed
+pub mod Planner

@@ -1,6 +1,13 @@
--- Laws on tests, tables, numbers below a bound, signed differences and XOR, for the crates above.
+-- Laws on lists and arrays, a file for each kind of loop; on tests, tables, signed differences and XOR.
 pub mod Tests
 pub mod Every
 pub mod Table
-pub mod Xor
+pub mod Total
+pub mod Front
+pub mod Count
+pub mod Over
+pub mod Held
+pub mod Filter
+pub mod Copied
 pub mod Signed
+pub mod Xor

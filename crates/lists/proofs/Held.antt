@@ -1,0 +1,30 @@
+-- What holds of each element, with one element more and under an implication.
+use mathlib.Core.List.{List, [], _∷_, _++_}
+use Rattle.lists.specs.Lists.{All}
+
+module _ {A : Type 0} (P : A → Type 0) where
+  pub all-nil : All P []
+  unfolding All
+  all-nil = tt
+
+  pub all-head : (x : A) (v : List A) → All P (x ∷ v) → P x
+  unfolding All
+  all-head x v a = a .0
+
+  pub all-tail : (x : A) (v : List A) → All P (x ∷ v) → All P v
+  unfolding All
+  all-tail x v a = a .1
+
+  pub all-cons : (x : A) (v : List A) → P x → All P v → All P (x ∷ v)
+  unfolding All
+  all-cons x v h a = (h, a)
+
+  pub all-snoc : (v : List A) (x : A) → All P v → P x → All P (v ++ (x ∷ []))
+  unfolding All
+  all-snoc [] x a h = (h, tt)
+  all-snoc (y ∷ v) x a h = (a .0, all-snoc v x (a .1) h)
+
+pub all-map : {A : Type 0} (P Q : A → Type 0) → ((x : A) → P x → Q x) → (v : List A) → All P v → All Q v
+unfolding All
+all-map P Q f [] a = tt
+all-map P Q f (x ∷ v) a = (f x (a .0), all-map P Q f v (a .1))

@@ -1,0 +1,136 @@
+// The plan of a period: two phases over the waiting list.
+ghost use mathlib.Core.Path.{_≡_};
+ghost use Prim.Native.Nat.{_+_, _≤_, _<_, min};
+ghost use lib.ListN.{length, take, set};
+ghost use Rattle.planner.specs.Shares.{share};
+ghost use Rattle.planner.specs.Plan.{alone, passOver, plan, boardOf, asksOf, planned};
+ghost use Rattle.planner.specs.Promises.{Tallied};
+use crate::entry::Entry;
+use crate::exchange::wide;
+use crate::request::Ask;
+use crate::request::Asks;
+use crate::search::Place;
+use crate::search::first_fit;
+use crate::shares::Setup;
+use crate::shares::share;
+
+// What is placed, in the order placed, and what still waits, the oldest first.
+pub struct Planned {
+    pub placed: usize,
+    pub entries: [Entry; 128],
+    pub waiting: usize,
+    pub asks: [Ask; 128],
+}
+
+// How many slots count: the count, or all of them where the count is too large.
+fn live(n: usize) -> usize
+    ensures { λ r. ⌜ (r ≡ min n 128) × (r ≤ 128) ⌝ }
+{
+    if n < 128 {
+        return n;
+    }
+    128
+}
+
+// The limits in the turn of one unit: its own share, and nothing for the others.
+fn alone_in(u: usize, shares: [u8; 8]) -> [u8; 8]
+    requires { ⌜ u < 8 ⌝ }
+    ensures { λ r. ⌜ r ≡ alone u shares ⌝ }
+{
+    let mut r = [0u8; 8];
+    r[u] = shares[u];
+    r
+}
+
+// One more for a unit; a unit above 7 is not counted.
+fn one_more(counts: &mut [u8; 8], unit: u8)
+    requires { ⌜ (length (now counts) ≡ 8) × (share (now counts) unit < 255) ⌝ }
+    ensures { λ _. ⌜ now (counts .exit) ≡ set (now (counts .entry)) unit (share (now (counts .entry)) unit + 1) ⌝ }
+{
+    if 8 <= unit {
+        return;
+    }
+    let u = unit as usize;
+    counts[u] = counts[u] + 1;
+}
+
+// How many of the n entries each unit has.
+fn tally(n: usize, entries: [Entry; 128]) -> [u8; 8]
+    requires { ⌜ n ≤ 128 ⌝ }
+    ensures { λ r. ⌜ Tallied r (take n entries) ⌝ }
+{
+    let mut counts = [0u8; 8];
+    let mut i: usize = 0;
+    while i < n {
+        let e = entries[i];
+        one_more(&mut counts, e.ask.request.unit);
+        i += 1;
+    }
+    counts
+}
+
+// One pass over what waits, oldest first, with a limit for each unit. What still waits is written over the slots of base.
+fn sweep(l: u32, limits: [u8; 8], base: [Ask; 128], b: Planned) -> Planned
+    requires { ⌜ (l ≤ 65535) × (b .placed + b .waiting ≤ 128) ⌝ }
+    ensures { λ r. ⌜ r ≡ planned (passOver l limits (boardOf b)) (b .entries) base ⌝ }
+{
+    let asks = b.asks;
+    let m = b.waiting;
+    let mut placed = b.placed;
+    let mut entries = b.entries;
+    let mut counts = tally(placed, entries);
+    let mut waiting: usize = 0;
+    let mut left = base;
+    let mut i: usize = 0;
+    while i < m {
+        let a = asks[i];
+        i += 1;
+        if share(limits, a.request.unit) <= share(counts, a.request.unit) {
+            left[waiting] = a;
+            waiting += 1;
+            continue;
+        }
+        let s = first_fit(l, a, placed, entries);
+        match s {
+            Place::At(t) => {
+                entries[placed] = Entry::at(a, t);
+                one_more(&mut counts, a.request.unit);
+                placed += 1;
+            }
+            Place::Nowhere => {
+                left[waiting] = a;
+                waiting += 1;
+            }
+        }
+    }
+    Planned {
+        placed: placed,
+        entries: entries,
+        waiting: waiting,
+        asks: left,
+    }
+}
+
+// The plan: units 0 to 7 in turn up to their guarantees, then all the rest up to the ceilings. It is written over the slots of the
+// old plan, and what still waits over those of the waiting list.
+pub fn make_plan(s: Setup, w: Asks, old: [Entry; 128]) -> Planned
+    ensures { λ r. ⌜ r ≡ planned (plan s (asksOf w)) old (w .list) ⌝ }
+{
+    let l = wide(s.period);
+    let guarantee = s.guarantee;
+    let ceiling = s.ceiling;
+    let base = w.list;
+    let n = live(w.n);
+    let mut r = Planned {
+        placed: 0,
+        entries: old,
+        waiting: n,
+        asks: base,
+    };
+    let mut u: usize = 0;
+    while u < 8 {
+        r = sweep(l, alone_in(u, guarantee), base, r);
+        u += 1;
+    }
+    sweep(l, ceiling, base, r)
+}

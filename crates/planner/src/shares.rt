@@ -1,0 +1,109 @@
+// A setup, its shares, and whether they fit.
+ghost use mathlib.Core.Path.{_≡_};
+ghost use Prim.Native.Nat.{_≤_};
+ghost use Rattle.lists.specs.Lists.{total, every};
+ghost use Rattle.planner.specs.Shares.{share, inRange, ordered, sharesFit, judged};
+use crate::exchange::Exchange;
+use crate::exchange::wide;
+
+// Period L, reach R, correction limit, and each unit's guarantee and ceiling.
+#[repr(C)]
+pub struct Setup {
+    pub period: u16,
+    pub reach: u16,
+    pub limit: u8,
+    pub guarantee: [u8; 8],
+    pub ceiling: [u8; 8],
+}
+
+// A number of 8 bits among those of 32.
+fn byte(x: u8) -> u32
+    ensures { λ r. ⌜ (r ≡ x) × (r ≤ 255) ⌝ }
+{
+    x as u32
+}
+
+// A unit's share; a unit above 7 has none.
+pub(crate) fn share(shares: [u8; 8], unit: u8) -> u32
+    ensures { λ r. ⌜ (r ≡ share shares unit) × (r ≤ 255) ⌝ }
+{
+    if 8 <= unit {
+        return 0;
+    }
+    byte(shares[unit as usize])
+}
+
+fn sum(shares: [u8; 8]) -> u32
+    ensures { λ r. ⌜ (r ≡ total (share shares) 8) × (r ≤ 2040) ⌝ }
+{
+    let mut k: u32 = 0;
+    let mut u: u8 = 0;
+    while u < 8 {
+        k += share(shares, u);
+        u += 1;
+    }
+    k
+}
+
+// Whether every share is at most 16.
+fn in_range(shares: [u8; 8]) -> bool
+    ensures { λ r. ⌜ r ≡ every (inRange shares) 8 ⌝ }
+{
+    let mut u: u8 = 0;
+    while u < 8 {
+        if 16 < share(shares, u) {
+            return false;
+        }
+        u += 1;
+    }
+    true
+}
+
+// Whether no guarantee is above its ceiling.
+fn in_order(guarantee: [u8; 8], ceiling: [u8; 8]) -> bool
+    ensures { λ r. ⌜ r ≡ every (ordered guarantee ceiling) 8 ⌝ }
+{
+    let mut u: u8 = 0;
+    while u < 8 {
+        if share(ceiling, u) < share(guarantee, u) {
+            return false;
+        }
+        u += 1;
+    }
+    true
+}
+
+// Whether every guarantee has room for the longest exchange in reach.
+fn fit(s: Setup) -> bool
+    ensures { λ r. ⌜ r ≡ sharesFit s ⌝ }
+{
+    let guarantee = s.guarantee;
+    sum(guarantee) * (Exchange::LONGEST + wide(s.reach)) <= wide(s.period)
+}
+
+// The number that a setup is answered: 0, 2 or 3.
+pub fn judge(s: Setup) -> u8
+    ensures { λ r. ⌜ r ≡ judged s ⌝ }
+{
+    if 13000 < s.reach {
+        return 2;
+    }
+    if 12 < s.limit {
+        return 2;
+    }
+    let guarantee = s.guarantee;
+    if !in_range(guarantee) {
+        return 2;
+    }
+    let ceiling = s.ceiling;
+    if !in_range(ceiling) {
+        return 2;
+    }
+    if !in_order(guarantee, ceiling) {
+        return 3;
+    }
+    if !fit(s) {
+        return 3;
+    }
+    0
+}
