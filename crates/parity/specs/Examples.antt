@@ -1,10 +1,11 @@
 -- The starred examples of document 01 that speak of parity, as one listing: what the definitions give beside what the paper gives.
 -- Assumes nothing.
 use Prim.Native.Nat.{ℕ, _-_, _/_, _%_, _^_}
-use mathlib.Core.Path.{_≡_, refl}
-use mathlib.Core.List.{List, [], _∷_, _++_}
+use mathlib.Core.Path.{refl}
+use mathlib.Core.List.{List, [], _∷_}
 use lib.Bits.{bitXor}
 use lib.ListN.{replicate, set}
+use Rattle.lists.specs.Listing.{Row, row, Agrees}
 use Rattle.parity.specs.Messages.{bits}
 use Rattle.parity.specs.Division.{shiftIn, divide, remainderOf, syndrome, syndromeOfBit}
 use Rattle.parity.specs.Overlays.{lowBits, times, overlayOf, uplinkOverlay}
@@ -44,15 +45,6 @@ corrected msg marks overlay limit =
 abbrev uplink : ℕ → ℕ
 uplink a = uplinkOverlay a .value
 
--- a row of the listing
-pub record Row : Type 0 where
-  pub gives : List ℕ
-  pub paper : List ℕ
-
--- what the definitions give, beside what the paper gives
-abbrev pub row : List ℕ → List ℕ → Row
-row a b = record { gives = a; paper = b }
-
 -- the starred examples, in the paper's order
 abbrev pub listing : List Row
 listing =
@@ -65,17 +57,7 @@ listing =
     ∷ row (uplink 0x000001 ∷ uplink 0x000002 ∷ uplink 0x000004 ∷ uplink 0x800000 ∷ []) (0x000001 ∷ 0x000003 ∷ 0x000007 ∷ 0xFFFA04 ∷ [])
     ∷ []
 
--- every row says the same twice
-abbrev pub Agrees : List Row → Type 0
-Agrees [] = Unit {0}
-Agrees (r ∷ rs) = (r .gives ≡ r .paper) × Agrees rs
-
 -- the one claim
 pub listing-agrees : Agrees listing
 unfolding bits shiftIn divide remainderOf syndrome weight subsets sumOf matching flipped correction lowBits times overlayOf
 listing-agrees = (refl, (refl, (refl, (refl, (refl, (refl, (refl, tt)))))))
-
--- two listings that agree are one that agrees, so that another crate's examples can join these
-pub agrees-append : (a b : List Row) → Agrees a → Agrees b → Agrees (a ++ b)
-agrees-append [] b ha hb = hb
-agrees-append (r ∷ a) b ha hb = (ha .0, agrees-append a b (ha .1) hb)

@@ -1,7 +1,8 @@
 -- The examples of document 01 that speak of plans and shares, as one listing: what the definitions give beside what the paper gives.
 use Prim.Native.Nat.{ℕ}
-use mathlib.Core.Path.{_≡_, refl}
+use mathlib.Core.Path.{refl}
 use mathlib.Core.List.{List, [], _∷_, map}
+use Rattle.lists.specs.Listing.{Row, row, Agrees}
 use Rattle.lists.specs.Lists.{countOf, total, every}
 use Rattle.planner.specs.declared.request.Ask.{Ask}
 use Rattle.planner.specs.declared.entry.Entry.{Entry}
@@ -34,13 +35,6 @@ requests third = ask 0 1 20 16 2000 2010 ∷ ask 0 2 4 0 1000 1004 ∷ ask 1 thi
 abbrev starts : List Ask → List ℕ
 starts w = map (λ (e : Entry). e .start) (plan (setup 20000 3000 (shares 2 1) (shares 3 2)) w .placed)
 
-pub record Row : Type 0 where
-  pub gives : List ℕ
-  pub paper : List ℕ
-
-abbrev pub row : List ℕ → List ℕ → Row
-row a b = record { gives = a; paper = b }
-
 -- the derived numbers; P1; P1 with the third request for address 2; three guarantees with R 3000, just accepted and just not
 abbrev pub listing : List Row
 listing =
@@ -50,11 +44,6 @@ listing =
     ∷ row (judged (setup 12036 3000 (shares 2 1) (shares 3 2)) ∷ []) (0 ∷ [])
     ∷ row (judged (setup 12035 3000 (shares 2 1) (shares 3 2)) ∷ []) (3 ∷ [])
     ∷ []
-
--- every row says the same twice
-abbrev pub Agrees : List Row → Type 0
-Agrees [] = Unit {0}
-Agrees (r ∷ rs) = (r .gives ≡ r .paper) × Agrees rs
 
 pub listing-agrees : Agrees listing
 unfolding countOf total every sentFor replyFor apart clear clearOf fits first place sharesFit judged tried pass alone turns plan
