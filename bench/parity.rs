@@ -253,7 +253,7 @@ fn main() {
     for n in [7, 14] {
         for marked in [0, 5, 12] {
             let cases: Vec<Case> = (0..16).map(|_| case(&mut source, n, marked)).collect();
-            let run = |f: fn(&[u8], &[u8], u32, u8, &mut [u8]) -> u64| {
+            let run = |f: fn(&[u8], &[u8], u32, u32, &mut [u8]) -> u64| {
                 let cases = &cases;
                 let mut out = vec![0u8; n];
                 move |i: usize| {
