@@ -1,0 +1,52 @@
+-- `frames::codes::whose_code` meets its contract: own, then the matching II test by test.
+-- Assumes nothing.
+use mathlib.Core.Path.{sym, _∙_}
+use native.Mathlib.Nat.{zero-add}
+use borrow.Author.Tests.{eq-eqb, ne-eqb, not-true, not-false}
+use Rattle.frames.specs.Codes.{whose}
+use borrow.Author.Needs.{needs}
+use Rattle.frames.proofs.codes.whose_code.Statement.{statement}
+use Rattle.frames.proofs.codes.whose_code.Tie as tie
+
+code-overlay-requires : tie.Need-code-overlay-requires
+code-overlay-requires c κs = search needs
+
+returns : tie.Need-returns
+unfolding whose
+returns c = simp (← c .before .code-overlay .ensures, eq-eqb _ _ (c .if1 .taken))
+
+returns-2 : tie.Need-returns-2
+unfolding whose
+returns-2 c = simp (← c .before .before .code-overlay .ensures, ne-eqb _ _ (c .before .if1 .left), ne-eqb _ _ (c .if2 .taken))
+
+of-si-requires : tie.Need-of-si-requires
+of-si-requires c κs = search needs
+
+returns-3 : tie.Need-returns-3
+unfolding whose
+returns-3 c = simp (← c .before .before .before .before .code-overlay .ensures, ne-eqb _ _ (c .before .before .before .if1 .left), eq-eqb _ _ (c .before .before .if2 .left), sym (c .before .of-si .ensures) ∙ not-true _ (c .if3 .taken))
+
+returns-4 : tie.Need-returns-4
+unfolding whose
+returns-4 c = simp (zero-add, ← c .before .before .before .before .before .code-overlay .ensures, ne-eqb _ _ (c .before .before .before .before .if1 .left), eq-eqb _ _ (c .before .before .before .if2 .left), sym (c .before .before .of-si .ensures) ∙ not-false _ (c .before .if3 .left), ne-eqb _ _ (c .if4 .taken))
+
+returns-5 : tie.Need-returns-5
+unfolding whose
+returns-5 c = simp (zero-add, ← c .before .before .before .before .before .before .code-overlay .ensures, ne-eqb _ _ (c .before .before .before .before .before .if1 .left), eq-eqb _ _ (c .before .before .before .before .if2 .left), sym (c .before .before .before .of-si .ensures) ∙ not-false _ (c .before .before .if3 .left), eq-eqb _ _ (c .before .if4 .left), eq-eqb _ _ (c .if5 .taken))
+
+returns-6 : tie.Need-returns-6
+unfolding whose
+returns-6 c = simp (zero-add, ← c .before .before .before .before .before .before .code-overlay .ensures, ne-eqb _ _ (c .before .before .before .before .before .if1 .left), eq-eqb _ _ (c .before .before .before .before .if2 .left), sym (c .before .before .before .of-si .ensures) ∙ not-false _ (c .before .before .if3 .left), eq-eqb _ _ (c .before .if4 .left), ne-eqb _ _ (c .if5 .left))
+
+pub whose-code-spec : {M : Type 1} → statement M
+whose-code-spec =
+    tie.close
+    (tie.spec
+    code-overlay-requires
+    returns
+    returns-2
+    of-si-requires
+    returns-3
+    returns-4
+    returns-5
+    returns-6)

@@ -1,0 +1,34 @@
+-- `frames::message::remainder_of` meets its contract: the case of a number is the only one that comes.
+-- Assumes nothing.
+use native.Mathlib.Omega.{arith}
+use Rattle.parity.proofs.Laws.{remainder-is, remainder-lt}
+use Rattle.frames.proofs.Told.{the-value, no-length, no-range}
+use borrow.Author.Needs.{needs}
+use Rattle.frames.proofs.message.remainder_of.Statement.{statement}
+use Rattle.frames.proofs.message.remainder_of.Tie as tie
+
+remainder-requires : tie.Need-remainder-requires
+remainder-requires c κs = search needs
+
+enum-known-r : tie.Need-enum-known-r
+enum-known-r c = search needs
+
+enum-told : tie.Need-enum-told
+enum-told c = search needs
+
+enum-told-2 : tie.Need-enum-told-2
+enum-told-2 c = search needs
+
+returns : tie.Need-returns
+returns c = let e = the-value _ _ _ (c .before .r .given .1) (remainder-is _ (c .before .before .before .before .before .args .msg .now) (c .before .before .before .before .before .pre) (c .before .before .before .remainder .ensures)) in (e, omega (arith, e, remainder-lt (c .before .before .before .before .before .args .msg .now)))
+
+returns-2 : tie.Need-returns-2
+returns-2 c = absurd (no-length _ _ (c .enum-told .given .1) (remainder-is _ (c .before .before .before .before .args .msg .now) (c .before .before .before .before .pre) (c .before .before .remainder .ensures)))
+
+returns-3 : tie.Need-returns-3
+returns-3 c = absurd (no-range _ _ (c .enum-told2 .given .1) (remainder-is _ (c .before .before .before .before .args .msg .now) (c .before .before .before .before .pre) (c .before .before .remainder .ensures)))
+
+pub remainder-of-spec : {M : Type 1} → statement M
+remainder-of-spec =
+    tie.close
+    (tie.spec remainder-requires enum-known-r enum-told enum-told-2 returns returns-2 returns-3)

@@ -1,0 +1,9 @@
+pub mod Answers
+pub mod Bytes
+pub mod Fields
+pub mod Formats
+pub mod Frames
+pub mod Building
+pub mod Reading
+pub mod Codes
+pub mod Addresses

@@ -1,0 +1,31 @@
+// Frames of document 01: interrogations and replies built and read, the codes of DF 11, and the MB bytes as a part of a buffer.
+mod addresses;
+mod answers;
+mod builders;
+mod bytes;
+mod codes;
+mod formats;
+mod frame;
+mod message;
+mod part;
+mod read;
+mod replies;
+
+pub use addresses::address_of;
+pub use answers::Address;
+pub use answers::Built;
+pub use answers::Code;
+pub use answers::Down;
+pub use answers::Draws;
+pub use answers::Interrogator;
+pub use answers::Up;
+pub use builders::all_call;
+pub use builders::build;
+pub use codes::code_for;
+pub use codes::code_of;
+pub use formats::drawn;
+pub use part::mb_part;
+pub use read::read_down;
+pub use read::read_up;
+pub use replies::all_call_reply;
+pub use replies::reply;
