@@ -1,3 +1,4 @@
+-- The laws of the crate, for its own proofs and for the crates above.
 pub mod Told
 pub mod Numbers
 pub mod Quotient

@@ -1,3 +1,4 @@
+-- The definitions: answers, bytes, fields, formats, codes, building and reading.
 pub mod Answers
 pub mod Bytes
 pub mod Fields
