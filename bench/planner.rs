@@ -1,5 +1,10 @@
 //! The proved planner beside two independent versions in Rust: one with the same method, which jumps past what is in the way, and
 //! one that tries every start. All three must give the same plan. Random cases, then worst cases found by search; 128 requests, L 65,535.
+//!
+//! The bound on paper. Beside n entries a request meets at most 5n overlaps (four pairs of intervals and the whole spans), each pair's
+//! forbids one run of starts, and the start only grows, so there are at most 5n jumps. Each round but the last has one, so a request takes
+//! at most n(5n + 1) steps. With shares that were accepted each request is tried once, so a plan of 128 takes at most
+//! 5(0² + 1² + .. + 127²) + (0 + 1 + .. + 127) = 3,462,528 steps. The run prints the most that was found, and the time of a step.
 use std::time::Instant;
 
 #[repr(C)]
@@ -230,18 +235,18 @@ fn random_case(rng: &mut Rng) -> PlanJob {
     PlanJob { setup: Setup { period: 65535, reach, limit: 5, guarantee, ceiling: [16; 8] }, asks: Asks { list, n: 128 } }
 }
 
-/// What the same method takes, in steps that need no clock: a jump counts for three.
-fn cost(job: &PlanJob) -> u64 {
+/// What the same method takes without a clock: its steps, a jump counting for so many.
+fn cost(job: &PlanJob, jump_counts: u64) -> u64 {
     let (mut placed, mut waiting) = (Vec::with_capacity(128), Vec::with_capacity(128));
     let mut steps = 0u64;
-    plan(job, &mut placed, &mut waiting, |a, es| jump(job.setup.period as u32, a, es, |moved| steps += if moved { 3 } else { 1 }));
+    plan(job, &mut placed, &mut waiting, |a, es| jump(job.setup.period as u32, a, es, |moved| steps += if moved { jump_counts } else { 1 }));
     steps
 }
 
 /// A case that is worse than its neighbours.
 fn climb(rng: &mut Rng, tries: u32) -> PlanJob {
     let mut best = random_case(rng);
-    let mut most = cost(&best);
+    let mut most = cost(&best, 3);
     for _ in 0..tries {
         let mut next = best;
         for _ in 0..1 + rng.below(4) {
@@ -257,7 +262,7 @@ fn climb(rng: &mut Rng, tries: u32) -> PlanJob {
         for (k, a) in next.asks.list.iter_mut().enumerate() {
             a.request.ma = k as u64;
         }
-        let c = cost(&next);
+        let c = cost(&next, 3);
         if c >= most {
             most = c;
             best = next;
@@ -311,10 +316,14 @@ fn report(name: &str, times: &[(f64, f64)]) {
 fn main() {
     let mut rng = Rng(0x9E37_79B9_7F4A_7C15);
     let cases: Vec<PlanJob> = (0..300).map(|_| random_case(&mut rng)).collect();
-    report("random", &cases.iter().map(|c| timed(c, 9)).collect::<Vec<_>>());
+    report("random", &cases.iter().map(|c| timed(c, 15)).collect::<Vec<_>>());
 
     let found: Vec<PlanJob> = (0..8).map(|_| climb(&mut rng, 4000)).collect();
-    report("found by search", &found.iter().map(|c| timed(c, 25)).collect::<Vec<_>>());
+    let times: Vec<(f64, f64)> = found.iter().map(|c| timed(c, 25)).collect();
+    report("found by search", &times);
+    let steps: Vec<u64> = found.iter().map(|c| cost(c, 1)).collect();
+    let step = times.iter().map(|t| t.0).sum::<f64>() * 1e6 / steps.iter().sum::<u64>() as f64;
+    println!("steps: at most {} found, of 3462528 on paper; {:.1} ns a step, so {:.1} ms on paper", steps.iter().max().unwrap(), step, step * 3.462528);
 
     let literal: Vec<f64> = cases.iter().take(6).chain(found.iter().take(2)).map(scanned).collect();
     println!("every start tried: {} cases, {:.0} ms, worst {:.0} ms", literal.len(), literal.iter().sum::<f64>() / literal.len() as f64, literal.iter().fold(0.0f64, |w, &t| w.max(t)));
