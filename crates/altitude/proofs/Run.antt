@@ -1,7 +1,7 @@
 -- The whole run of feet: its lines one after the other are the text of the definition, and each fits a buffer of 32 bytes.
 use Prim.Native.Nat.{ℕ, _+_, _-_, _*_, _^_, _≤_, _<_}
 use native.Mathlib.Omega.{arith}
-use mathlib.Core.Path.{_≡_, refl, ap}
+use mathlib.Core.Path.{_≡_, refl}
 use mathlib.Core.Bool.{Bool, true, false, _&&_}
 use mathlib.Core.List.{List, [], _∷_}
 use lib.Dec.{leb, ltb}
@@ -11,18 +11,19 @@ use Rattle.lists.specs.Lists.{pick}
 use Rattle.lists.proofs.Tests.{and-right}
 use Rattle.text.specs.Put.{decimal}
 use Rattle.text.specs.Line.{lineAt, wordsOf}
+use Rattle.text.specs.Run.{linesText, TookLine}
 use Rattle.text.specs.Number.{allDigits, valueAfter, numberIn}
 use Rattle.text.proofs.Decimal.{decimal-length, decimal-fits}
-use Rattle.text.proofs.Laid.{read-off}
-use Rattle.text.proofs.Lines.{line-end-after, visited, all-lines}
+use Rattle.text.proofs.Lines.{visited}
+use Rattle.text.proofs.Run as run
 use Rattle.text.proofs.Signs.{signed-fits}
+use Rattle.text.specs.declared.answer.Lined.{Lined}
 use Rattle.text.specs.declared.answer.Number.the-variants.{Is, Not}
 use Rattle.altitude.specs.declared.code.Altitude.{Altitude}
 use Rattle.altitude.specs.declared.code.Altitude.the-variants.{Feet, None, Metric, Range, Illegal}
-use Rattle.altitude.specs.declared.lines.Lined.{Lined}
 use Rattle.altitude.specs.Code.{Form, eleven, fiveHundreds, group, hundreds, feetBy25, feetBy100, formOf, readAs, altitude, numberOf}
 use Rattle.altitude.specs.Code.Form.{allZero, metric, by25, by100, illegal}
-use Rattle.altitude.specs.Lines.{valueText, answerText, codeText, numberText, wordsText, lineText, linesText, feetText, TookLine}
+use Rattle.altitude.specs.Lines.{valueText, answerText, codeText, numberText, wordsText, lineText, feetText}
 use Rattle.altitude.proofs.Reckoned.{eleven-lt, five-lt, hundreds-le}
 
 -- ---- the length of a line
@@ -81,16 +82,11 @@ line-short l = words-short (wordsOf l)
 -- ---- the text of a run
 
 -- with 32 bytes lent, what the call leaves at the buffer's front is the whole text of the line
-pub line-stands : (s : List ℕ) (at : ℕ) (before after : List ℕ) (r : Lined) → 32 ≤ length before → TookLine s at before after r
+pub line-stands : (s : List ℕ) (at : ℕ) (before after : List ℕ) (r : Lined) → 32 ≤ length before → TookLine lineText s at before after r
     → take (r .size) after ≡ lineText (lineAt s at)
-line-stands s at before after r room t = read-off (t .text) (omega (arith, line-short (lineAt s at)))
+line-stands s at before after r room t = run.line-stands lineText t (omega (arith, line-short (lineAt s at)))
 
 -- the lines that a run visits, from the first place on, print the text of the definition
-pub whole-run : (s : List ℕ) → linesText (visited (length s + 1) s 0) ≡ feetText s
+pub whole-run : (s : List ℕ) → linesText lineText (visited (length s + 1) s 0) ≡ feetText s
 unfolding feetText
-whole-run s = ap linesText (all-lines s)
-
--- a step goes on, so a run ends
-pub goes-on : (s : List ℕ) (at : ℕ) (before after : List ℕ) (r : Lined) → at < length s → TookLine s at before after r
-    → length s - r .next < length s - at
-goes-on s at before after r h t = omega (arith, t .next, line-end-after s at (omega arith))
+whole-run s = run.whole-run lineText s

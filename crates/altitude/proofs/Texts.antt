@@ -1,14 +1,12 @@
 -- The texts of feet from the parts that the code lays one after the other, and what a line's words print.
-use Prim.Native.Nat.{ℕ, _+_, _-_, _≤_, _<_, min}
-use native.Mathlib.Omega.{arith}
+use Prim.Native.Nat.{ℕ, _-_, _≤_, _<_}
 use mathlib.Core.Path.{_≡_}
 use mathlib.Core.List.{List, [], _∷_}
 use lib.IntN.{ℤ}
-use lib.Seq.{take-nil}
-use lib.ListN.{length, take, drop, drop-of-length-le}
+use lib.ListN.{take, drop}
 use Rattle.text.specs.Put.{decimal, Put}
 use Rattle.text.specs.Signed.{signedDecimal}
-use Rattle.text.specs.Line.{wordsOf, wordAt, within, parts, full, lineAt, lineEnd, runEnd}
+use Rattle.text.specs.Line.{wordsOf, wordAt, within}
 use Rattle.text.specs.Number.{numberIn}
 use Rattle.text.proofs.Laid.{put-then}
 use Rattle.text.proofs.Words.{words-next, words-end}
@@ -55,10 +53,3 @@ module _ (line : List ℕ) (v : Span) (ev : v ≡ wordAt line 0) where
     pub one-word : w .to ≤ w .from → lineText line ≡ numberText (numberIn 9 (take (v .to - v .from) (drop (v .from) line)))
     unfolding lineText wordsText within
     one-word k = rw (first-word, words-end line (v .to) (rw ew at k))
-
--- ---- a line of the input
-
--- behind the input's end there is no line
-pub past-end : (s : List ℕ) (at : ℕ) → length s ≤ at → (length s ≡ min (length s) (lineEnd s at + 1)) × (lineText (lineAt s at) ≡ [])
-unfolding lineText wordsText wordsOf full parts lineAt lineEnd runEnd
-past-end s at h = (omega arith, rw (drop-of-length-le s h, take-nil))

@@ -1,17 +1,15 @@
 -- The lines of the program feet: for each line of its input, what it prints.
-use Prim.Native.Nat.{ℕ, _+_, min}
-use mathlib.Core.Path.{_≡_}
+use Prim.Native.Nat.{ℕ}
 use mathlib.Core.List.{List, [], _∷_, _++_}
-use lib.ListN.{length}
-use Rattle.text.specs.Put.{decimal, Put}
+use Rattle.text.specs.Put.{decimal}
 use Rattle.text.specs.Signed.{signedDecimal}
-use Rattle.text.specs.Line.{linesOf, lineAt, lineEnd, wordsOf}
+use Rattle.text.specs.Line.{linesOf, wordsOf}
+use Rattle.text.specs.Run.{linesText}
 use Rattle.text.specs.Number.{numberIn}
 use Rattle.text.specs.declared.answer.Number.{Number}
 use Rattle.text.specs.declared.answer.Number.the-variants.{Is, Not}
 use Rattle.altitude.specs.declared.code.Altitude.{Altitude}
 use Rattle.altitude.specs.declared.code.Altitude.the-variants.{Feet, None, Metric, Range, Illegal}
-use Rattle.altitude.specs.declared.lines.Lined.{Lined}
 use Rattle.altitude.specs.Code.{altitude, numberOf}
 
 -- what stands behind the answer's number, and the line's end: the feet, " none", " metric", or nothing for a refusal
@@ -48,14 +46,5 @@ unfoldable pub lineText : List ℕ → List ℕ
 lineText line = wordsText (wordsOf line)
 
 -- the whole run: line after line
-unfoldable pub linesText : List (List ℕ) → List ℕ
-linesText [] = []
-linesText (l ∷ ls) = lineText l ++ linesText ls
-
 unfoldable pub feetText : List ℕ → List ℕ
-feetText s = linesText (linesOf s)
-
--- the line at a place was taken: its text stands at the front of the buffer, and the next line begins at next
-pub record TookLine (s : List ℕ) (at : ℕ) (before after : List ℕ) (r : Lined) : Type 0 where
-  pub next : r .next ≡ min (length s) (lineEnd s at + 1)
-  pub text : Put (lineText (lineAt s at)) 0 before after (r .size)
+feetText s = linesText lineText (linesOf s)

@@ -4,7 +4,6 @@ mod lines;
 
 pub use code::Altitude;
 pub use code::read;
-pub use lines::Lined;
 pub use lines::feet_line;
 pub use lines::number;
 pub use lines::put_answer;

@@ -1,17 +1,13 @@
 // The lines of the program feet, as their very bytes.
 ghost use mathlib.Core.Path.{_≡_};
 ghost use Rattle.text.specs.Put.{Put};
+ghost use Rattle.text.specs.Run.{TookLine};
 ghost use Rattle.altitude.specs.Code.{altitude, numberOf};
-ghost use Rattle.altitude.specs.Lines.{valueText, answerText, codeText, lineText, TookLine};
+ghost use Rattle.altitude.specs.Lines.{valueText, answerText, codeText, lineText};
 use crate::code::Altitude;
 use crate::code::read;
+use text::Lined;
 use text::Number;
-
-// A line was taken: the place of the next one, and how many bytes stand in the buffer.
-pub struct Lined {
-    pub next: usize,
-    pub size: usize,
-}
 
 // The number that an answer is given.
 pub fn number(a: Altitude) -> u32
@@ -83,21 +79,12 @@ fn put_line(line: &[u8], out: &mut [u8]) -> usize
 
 // The line of s that begins at a place, as the text that feet prints for it.
 pub fn feet_line(s: &[u8], at: usize, out: &mut [u8]) -> Lined
-    ensures { λ r. ⌜ TookLine (now (s .entry)) at (now (out .entry)) (now (out .exit)) r ⌝ }
+    ensures { λ r. ⌜ TookLine lineText (now (s .entry)) at (now (out .entry)) (now (out .exit)) r ⌝ }
 {
-    if s.len() <= at {
-        return Lined {
-            next: s.len(),
-            size: 0,
-        };
-    }
-    let end = text::line_end(s, at);
-    let size = put_line(&s[at..end], out);
-    if end < s.len() {
-        return Lined {
-            next: end + 1,
-            size,
-        };
-    }
-    Lined { next: end, size }
+    let line = text::line_at(s, at);
+    let from = line.from;
+    let to = line.to;
+    let size = put_line(&s[from..to], out);
+    let next = text::line_after(s, to);
+    Lined { next, size }
 }

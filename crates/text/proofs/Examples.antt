@@ -6,6 +6,7 @@ use Rattle.text.specs.Put.{decimalIn, decimal, laid}
 use Rattle.text.specs.Line.{blank, newline, grown, parts, full, linesOf, wordsOf, sameAs}
 use Rattle.text.specs.Number.{between, isDigit, allDigits, valueAfter, numberIn}
 use Rattle.text.specs.Hex.{hexDigit, hexIn, hexOf, hexValue, allHex, pairs, isHex, bytesIn}
+use Rattle.text.specs.Plain.{plain}
 use Rattle.text.specs.declared.answer.Number.the-variants.{Is, Not}
 
 -- ---- made
@@ -29,6 +30,9 @@ two-bytes = refl
 six-digits : hexIn 6 0x1FFF409 ≡ 70 ∷ 70 ∷ 70 ∷ 52 ∷ 48 ∷ 57 ∷ []
 unfolding hexIn hexDigit
 six-digits = refl
+
+quoted : plain "Az 0#\n" ≡ 65 ∷ 122 ∷ 32 ∷ 48 ∷ 35 ∷ 10 ∷ []
+quoted = refl
 
 -- as far as the buffer goes
 cut : laid (1 ∷ 2 ∷ 3 ∷ []) 1 (9 ∷ 9 ∷ 9 ∷ []) ≡ 9 ∷ 1 ∷ 2 ∷ []

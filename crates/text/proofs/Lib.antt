@@ -10,3 +10,4 @@ pub mod HexRead
 mod Examples
 pub mod Signs
 pub mod Nth
+pub mod Run

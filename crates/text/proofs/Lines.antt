@@ -9,7 +9,7 @@ use lib.ListN.{length, getD, take, drop, length-drop, length-take, drop-of-lengt
 use lib.Dec.{ltb}
 use borrow.Author.Tests.{ltb-true, ltb-false, not-true, eq-eqb, ne-eqb}
 use Rattle.lists.specs.Lists.{pick}
-use Rattle.text.specs.Line.{newline, inLine, grown, parts, linesOf, front, runEnd, lineEnd, lineAt, LineTo}
+use Rattle.text.specs.Line.{newline, inLine, grown, parts, linesOf, front, runEnd, lineEnd, lineAt, within, LineTo, LineHeld}
 use Rattle.text.proofs.Runs.{front-more, front-stop, run-is, run-fits, run-inside}
 
 -- ---- the first part of a text, and the parts after it
@@ -86,6 +86,19 @@ module _ (s : List ℕ) (at : ℕ) where
   pub lines-end : length s ≤ at → linesOf (drop at s) ≡ []
   unfolding linesOf parts
   lines-end h = rw (drop-of-length-le s h)
+
+  -- the span of a line; behind the input's end there is none
+  module _ {to : ℕ} (e : to ≡ lineEnd s at) where
+    pub held-from : at ≤ to → LineHeld s at (record { from = at; to = to })
+    unfolding within lineAt
+    held-from h = record { text = rw e; end = e; order = h; fits = omega (arith, line-end-fits) }
+
+    pub held-none : to < at → LineHeld s at (record { from = to; to = to })
+    unfolding within lineAt
+    held-none h =
+        let a : to - to ≡ 0 = omega arith in
+        let b : lineEnd s at - at ≡ 0 = omega arith in
+        record { text = rw (a, b); end = e; order = omega arith; fits = omega (arith, line-end-fits) }
 
   pub line-length : length (lineAt s at) ≡ lineEnd s at - at
   unfolding lineAt

@@ -4,3 +4,5 @@ pub mod Line
 pub mod Number
 pub mod Hex
 pub mod Signed
+pub mod Run
+pub mod Plain

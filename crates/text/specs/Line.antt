@@ -88,6 +88,13 @@ pub record LineTo (s : List ℕ) (at r : ℕ) : Type 0 where
   pub fits : r ≤ length s
   pub after : min at (length s) ≤ r
 
+-- the line that begins at a place
+pub record LineHeld (s : List ℕ) (at : ℕ) (r : Span) : Type 0 where
+  pub text : within s r ≡ lineAt s at
+  pub end : r .to ≡ lineEnd s at
+  pub order : r .from ≤ r .to
+  pub fits : r .to ≤ length s
+
 pub record NextWord (line : List ℕ) (at : ℕ) (r : Span) : Type 0 where
   pub is : r ≡ wordAt line at
   pub order : r .from ≤ r .to

@@ -17,3 +17,9 @@ pub enum Hex {
     Bytes(usize),
     Not,
 }
+
+// A line was taken: the place of the next one, and how many bytes of text stand in the lent buffer.
+pub struct Lined {
+    pub next: usize,
+    pub size: usize,
+}

@@ -8,6 +8,7 @@ mod put;
 mod signed;
 
 pub use answer::Hex;
+pub use answer::Lined;
 pub use answer::Number;
 pub use answer::Span;
 pub use count::nth_word;
@@ -15,6 +16,8 @@ pub use count::word_count;
 pub use hex::hex_bytes;
 pub use hex::put_hex;
 pub use hex::put_hex6;
+pub use line::line_after;
+pub use line::line_at;
 pub use line::line_end;
 pub use line::same;
 pub use line::word;

@@ -1,6 +1,8 @@
 // Lines of an input and words of a line, by their places.
+ghost use Prim.Native.Nat.{_+_, min};
 ghost use mathlib.Core.Path.{_≡_};
-ghost use Rattle.text.specs.Line.{blank, inWord, runEnd, LineTo, NextWord, sameAs};
+ghost use lib.ListN.{length};
+ghost use Rattle.text.specs.Line.{blank, inWord, runEnd, LineTo, LineHeld, NextWord, sameAs};
 use crate::answer::Span;
 
 // The place of the first newline at or after at, or the input's length.
@@ -13,6 +15,27 @@ pub fn line_end(s: &[u8], at: usize) -> usize
             return i;
         }
         i += 1;
+    }
+    s.len()
+}
+
+// The line that begins at at; behind the input's end the empty span there.
+pub fn line_at(s: &[u8], at: usize) -> Span
+    ensures { λ r. ⌜ LineHeld (now (s .entry)) at r ⌝ }
+{
+    let to = line_end(s, at);
+    if to < at {
+        return Span { from: to, to };
+    }
+    Span { from: at, to }
+}
+
+// The place behind the newline at a line's end.
+pub fn line_after(s: &[u8], end: usize) -> usize
+    ensures { λ r. ⌜ r ≡ min (length (now (s .entry))) (end + 1) ⌝ }
+{
+    if end < s.len() {
+        return end + 1;
     }
     s.len()
 }

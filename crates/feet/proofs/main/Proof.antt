@@ -3,7 +3,7 @@ use Prim.Native.Nat.{_-_}
 use mathlib.Core.Path.{_≡_, refl}
 use lib.ListN.{length}
 use Rattle.text.proofs.Laid.{put-count}
-use Rattle.altitude.proofs.Run.{goes-on}
+use Rattle.text.proofs.Run.{goes-on}
 use borrow.Author.Needs.{needs}
 use Rattle.feet.proofs.main.Statement.{statement}
 use Rattle.feet.proofs.main.Tie as tie
@@ -42,13 +42,13 @@ array-share-prefix-line : tie.Need-array-share-prefix-line Inv-loop μ-loop
 array-share-prefix-line c = search needs
 
 slice-aggregate-write-all : tie.Need-slice-aggregate-write-all Inv-loop μ-loop
-slice-aggregate-write-all c = put-count (c .before .before .feet-line .ensures .text)
+slice-aggregate-write-all c = put-count (c .before .before .feet-line .ensures .text-put)
 
 write-all-requires : tie.Need-write-all-requires Inv-loop μ-loop
 write-all-requires c κs = search needs
 
 loop-less : tie.Need-loop-less Inv-loop μ-loop
-loop-less c = goes-on _ _ _ _ _ (c .before .before .before .before .before .loop-test .taken) (c .before .before .before .feet-line .ensures)
+loop-less c = goes-on _ (c .before .before .before .feet-line .ensures) (c .before .before .before .before .before .loop-test .taken)
 
 loop-again : tie.Need-loop-again Inv-loop μ-loop
 loop-again c = search needs
