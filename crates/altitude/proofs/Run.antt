@@ -55,10 +55,14 @@ number-short Metric = decimal-length 1 0 (omega arith)
 number-short Range = decimal-length 1 2 (omega arith)
 number-short Illegal = decimal-length 1 18 (omega arith)
 
+-- an answer takes at most 15 bytes, whatever the code
+pub answer-short : (ac : ℕ) → length (answerText (altitude ac)) ≤ 15
+unfolding answerText altitude
+answer-short ac = simp length-append (omega (arith, number-short (altitude ac), said-short (ltb 8191 ac) ac))
+
 code-short : (ac : ℕ) → ac < 2 ^ 32 → length (codeText ac) ≤ 26
-unfolding codeText answerText altitude
-code-short ac h =
-    simp length-append (omega (arith, decimal-fits ac h, number-short (altitude ac), said-short (ltb 8191 ac) ac))
+unfolding codeText
+code-short ac h = simp length-append (omega (arith, decimal-fits ac h, answer-short ac))
 
 read-short : (w : List ℕ) (t : Bool) → (ltb 0 (length w) && leb (length w) 9 && allDigits w && ltb (valueAfter 0 w) (2 ^ 32)) ≡ t
     → length (numberText (pick t (Is (valueAfter 0 w)) Not)) ≤ 32

@@ -13,3 +13,4 @@ pub mod Found
 pub mod Laws
 pub mod Unique
 pub mod Outcomes
+pub mod Sizes

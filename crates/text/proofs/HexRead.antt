@@ -13,8 +13,9 @@ use borrow.Author.Tests.{lt-ltb, le-ltb, le-leb, lt-leb, eq-eqb, ne-eqb, ltb-tru
 use Rattle.text.specs.Put.{laid}
 use Rattle.text.specs.Line.{sameAs}
 use Rattle.text.specs.Hex.{hexValue, allHex, pairs, isHex, bytesIn, hexAnswer, filled, HexRead}
+use Rattle.text.specs.declared.answer.Hex.{Hex}
 use Rattle.text.specs.declared.answer.Hex.the-variants.{Bytes, Not}
-use Rattle.text.proofs.Laid.{take-laid}
+use Rattle.text.proofs.Laid.{take-laid, length-laid}
 
 -- ---- digit by digit
 
@@ -127,7 +128,16 @@ bytes-by w bs false false e f h =
 pub bytes-fit : (w bs : List ℕ) → bytesIn w ≡ some bs → length bs ≤ 32
 bytes-fit w bs h = bytes-by w bs (sameAs w (45 ∷ [])) (isHex w) refl refl h
 
+filled-same : (o : Option (List ℕ)) (l : List ℕ) → length (filled o l) ≡ length l
+unfolding filled
+filled-same (some bs) l = length-laid bs 0 l
+filled-same none l = refl
+
 module _ {w l m : List ℕ} where
+  -- the buffer keeps its length
+  pub hex-same : {r : Hex} → HexRead w l m r → length m ≡ length l
+  hex-same h = ap length (h .buffer) ∙ filled-same (bytesIn w) l
+
   found-by : (o : Option (List ℕ)) (n : ℕ) → bytesIn w ≡ o → length l ≡ 32 → HexRead w l m (Bytes n) → (bytesIn w ≡ some (take n m)) × (n ≤ 32)
   unfolding hexAnswer filled
   found-by (some bs) n e k h =

@@ -1,0 +1,144 @@
+-- Every line's text fits 512 bytes.
+use Prim.Native.Nat.{ℕ, _+_, _*_, _≤_}
+use native.Mathlib.Omega.{arith}
+use mathlib.Core.Path.{_≡_, refl}
+use mathlib.Core.Bool.{Bool, true, false}
+use mathlib.Core.List.{List, [], _∷_, _++_}
+use mathlib.Core.Option.{Option, some, none}
+use lib.Dec.{eqb, ltb}
+use lib.ListN.{length, replicate, length-append, length-replicate}
+use Rattle.lists.specs.Lists.{pick}
+use Rattle.text.specs.Put.{decimal}
+use Rattle.text.specs.Plain.{plain}
+use Rattle.text.specs.Line.{wordsOf}
+use Rattle.text.specs.Number.{numberIn}
+use Rattle.text.specs.Hex.{hexIn, hexOf, bytesIn}
+use Rattle.text.specs.declared.answer.Number.{Number}
+use Rattle.text.specs.declared.answer.Number.the-variants.{Is, Not}
+use Rattle.text.proofs.Decimal.{decimal-length}
+use Rattle.text.proofs.HexMade.{hex-length, hex-of-length}
+use Rattle.text.proofs.HexRead.{bytes-fit}
+use Rattle.altitude.specs.Code.{altitude}
+use Rattle.altitude.specs.Lines as altitude-lines
+use Rattle.altitude.proofs.Run.{answer-short}
+use Rattle.parity.specs.Messages.{bits, whole}
+use Rattle.parity.specs.Answers.{Answer, Outcome, done, refusal}
+use Rattle.parity.specs.Division.{remainderOf, remainderAnswer}
+use Rattle.parity.specs.Overlays.{overlayOf, uplinkOverlay}
+use Rattle.parity.specs.Correction.{correction}
+use Rattle.parity.proofs.Sizes.{Small, outcome-small}
+use Rattle.commands.specs.Texts.{unread, word, ofWords, withNumber, withBytes, doneText, refusalText, answerText}
+use Rattle.commands.specs.Parity.{reckonedText, correctedText, remainderText, overlayText, fixedText, correctText}
+use Rattle.commands.specs.Feet.{feetText}
+use Rattle.commands.specs.Help.{wordsHelp, helpText}
+use Rattle.commands.specs.Console.{named, comment, commandText, wordsText, lineText}
+
+-- the size of the buffer that the program lends
+abbrev pub room : ℕ
+room = 512
+
+-- ---- a text that is one of two, or stands behind a reading
+
+either-fits : (t : Bool) (a b : List ℕ) → length a ≤ room → length b ≤ room → length (pick t a b) ≤ room
+either-fits true a b h k = h
+either-fits false a b h k = k
+
+unread-fits : length unread ≤ room
+unread-fits = omega arith
+
+of-words-fits : (n : ℕ) (ws : List (List ℕ)) (t : List ℕ) → length t ≤ room → length (ofWords n ws t) ≤ room
+unfolding ofWords
+of-words-fits n ws t h = either-fits (eqb (length ws) n) t unread h unread-fits
+
+with-number-fits : (a : Number) (f : ℕ → List ℕ) → ((n : ℕ) → length (f n) ≤ room) → length (withNumber a f) ≤ room
+unfolding withNumber
+with-number-fits (Is n) f h = h n
+with-number-fits Not f h = unread-fits
+
+bytes-by : (w : List ℕ) (o : Option (List ℕ)) (f : List ℕ → List ℕ) → bytesIn w ≡ o → ((bs : List ℕ) → length bs ≤ 32 → length (f bs) ≤ room) → length (withBytes o f) ≤ room
+unfolding withBytes
+bytes-by w (some bs) f e h = h bs (bytes-fit w bs e)
+bytes-by w none f e h = unread-fits
+
+with-bytes-fits : (w : List ℕ) (f : List ℕ → List ℕ) → ((bs : List ℕ) → length bs ≤ 32 → length (f bs) ≤ room) → length (withBytes (bytesIn w) f) ≤ room
+with-bytes-fits w f h = bytes-by w (bytesIn w) f refl h
+
+-- ---- the text of an answer
+
+answer-fits : (n : ℕ) (v : List ℕ) → n ≤ 13 → length v ≤ 80 → length (answerText n v) ≤ room
+unfolding answerText doneText refusalText
+answer-fits n v h k =
+    either-fits (eqb n 0) (plain "0 " ++ (v ++ plain "\n")) (decimal n ++ plain "\n")
+    (simp length-append (omega arith))
+    (simp length-append (omega (arith, decimal-length 1 n (omega arith))))
+
+reckoned-fits : (t : Bool) (v n : ℕ) → n ≤ 13 → length (reckonedText (pick t (done v) (refusal n))) ≤ room
+unfolding reckonedText
+reckoned-fits true v n h = answer-fits 0 (hexIn 6 v) (omega arith) (omega (arith, hex-length 6 v))
+reckoned-fits false v n h = answer-fits n (hexIn 6 0) h (omega (arith, hex-length 6 0))
+
+corrected-fits : (o : Outcome) (size : ℕ) → size ≤ 32 → Small size o → length (correctedText o) ≤ room
+unfolding correctedText
+corrected-fits o size k s =
+    answer-fits (o .number) (hexOf (o .output) ++ (plain " " ++ decimal (o .flips))) (s .number)
+    (simp length-append (omega (arith, hex-of-length (o .output), s .output, decimal-length 1 (o .flips) (omega (arith, s .flips)))))
+
+fixed-fits : (msg marks : List ℕ) (overlay limit : ℕ) → length msg ≤ 32 → length (fixedText msg marks overlay limit) ≤ room
+unfolding fixedText
+fixed-fits msg marks overlay limit h =
+    corrected-fits (correction msg marks overlay limit (replicate (length msg) 0)) (length (replicate {A = ℕ} (length msg) 0))
+    (omega (arith, length-replicate {A = ℕ} (length msg) 0)) (outcome-small msg marks overlay limit (replicate (length msg) 0))
+
+-- ---- the lines
+
+module _ (ws : List (List ℕ)) where
+  remainder-fits : length (remainderText ws) ≤ room
+  unfolding remainderText
+  remainder-fits =
+      of-words-fits 2 ws (withBytes (bytesIn (word 1 ws)) (λ msg. reckonedText (remainderAnswer msg)))
+      (with-bytes-fits (word 1 ws) (λ msg. reckonedText (remainderAnswer msg)) (λ msg h. reckoned-fits (whole (length msg)) (remainderOf (bits msg)) 1 (omega arith)))
+
+  overlay-fits : length (overlayText ws) ≤ room
+  unfolding overlayText
+  overlay-fits =
+      of-words-fits 2 ws (withNumber (numberIn 10 (word 1 ws)) (λ address. reckonedText (uplinkOverlay address)))
+      (with-number-fits (numberIn 10 (word 1 ws)) (λ address. reckonedText (uplinkOverlay address))
+      (λ address. reckoned-fits (ltb address 0x1000000) (overlayOf address) 2 (omega arith)))
+
+  correct-fits : length (correctText ws) ≤ room
+  unfolding correctText
+  correct-fits =
+      of-words-fits 5 ws _
+      (with-bytes-fits (word 1 ws) _ (λ msg h.
+      with-bytes-fits (word 2 ws) _ (λ marks k.
+      with-number-fits (numberIn 10 (word 3 ws)) _ (λ overlay.
+      with-number-fits (numberIn 10 (word 4 ws)) _ (λ limit. fixed-fits msg marks overlay limit h)))))
+
+  feet-fits : length (feetText ws) ≤ room
+  unfolding feetText
+  feet-fits =
+      of-words-fits 2 ws (withNumber (numberIn 10 (word 1 ws)) (λ ac. altitude-lines.answerText (altitude ac)))
+      (with-number-fits (numberIn 10 (word 1 ws)) (λ ac. altitude-lines.answerText (altitude ac)) (λ ac. omega (arith, answer-short ac)))
+
+  help-fits : length (helpText ws) ≤ room
+  unfolding helpText
+  help-fits = of-words-fits 1 ws wordsHelp (omega arith)
+
+  command-fits : length (commandText ws) ≤ room
+  unfolding commandText
+  command-fits =
+      either-fits (named "remainder" ws) (remainderText ws) _ remainder-fits
+      (either-fits (named "overlay" ws) (overlayText ws) _ overlay-fits
+      (either-fits (named "correct" ws) (correctText ws) _ correct-fits
+      (either-fits (named "feet" ws) (feetText ws) _ feet-fits
+      (either-fits (named "help" ws) (helpText ws) unread help-fits unread-fits))))
+
+words-fit : (ws : List (List ℕ)) → length (wordsText ws) ≤ room
+unfolding wordsText
+words-fit [] = omega arith
+words-fit (w ∷ ws) = either-fits (comment w) [] (commandText (w ∷ ws)) (omega arith) (command-fits (w ∷ ws))
+
+-- the text of any line fits
+pub line-fits : (line : List ℕ) → length (lineText line) ≤ room
+unfolding lineText
+line-fits line = words-fit (wordsOf line)

@@ -1,0 +1,6 @@
+-- The definitions: what each line of the console prints.
+pub mod Texts
+pub mod Parity
+pub mod Feet
+pub mod Help
+pub mod Console

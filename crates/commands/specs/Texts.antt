@@ -1,0 +1,49 @@
+-- What a line's words say, and the text of an answer; shared by all lines of the console.
+use Prim.Native.Nat.{ℕ}
+use mathlib.Core.List.{List, [], _++_}
+use mathlib.Core.Option.{Option, some, none}
+use lib.Dec.{eqb}
+use lib.ListN.{length, getD}
+use Rattle.lists.specs.Lists.{pick}
+use Rattle.text.specs.Put.{decimal}
+use Rattle.text.specs.Plain.{plain}
+use Rattle.text.specs.declared.answer.Number.{Number}
+use Rattle.text.specs.declared.answer.Number.the-variants.{Is, Not}
+
+-- ---- read
+
+-- a line that cannot be read
+abbrev pub unread : List ℕ
+unread = plain "?\n"
+
+-- the k-th word, from 0; the empty one where there is none
+unfoldable pub word : ℕ → List (List ℕ) → List ℕ
+word k ws = getD ws k []
+
+-- too few or too many words cannot be read
+unfoldable pub ofWords : ℕ → List (List ℕ) → List ℕ → List ℕ
+ofWords n ws text = pick (eqb (length ws) n) text unread
+
+-- a word that is no number where one belongs cannot be read
+unfoldable pub withNumber : Number → (ℕ → List ℕ) → List ℕ
+withNumber (Is n) text = text n
+withNumber Not text = unread
+
+-- a word that is no bytes where they belong cannot be read
+unfoldable pub withBytes : Option (List ℕ) → (List ℕ → List ℕ) → List ℕ
+withBytes (some bs) text = text bs
+withBytes none text = unread
+
+-- ---- printed
+
+-- 0 and a value
+unfoldable pub doneText : List ℕ → List ℕ
+doneText value = plain "0 " ++ (value ++ plain "\n")
+
+-- the refusal's number alone
+unfoldable pub refusalText : ℕ → List ℕ
+refusalText n = decimal n ++ plain "\n"
+
+-- a call's answer: its number, with the value where that is 0
+unfoldable pub answerText : ℕ → List ℕ → List ℕ
+answerText n value = pick (eqb n 0) (doneText value) (refusalText n)
