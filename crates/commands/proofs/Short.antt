@@ -1,5 +1,5 @@
 -- Every line's text fits 512 bytes.
-use Prim.Native.Nat.{ℕ, _+_, _*_, _≤_}
+use Prim.Native.Nat.{ℕ, _+_, _≤_}
 use native.Mathlib.Omega.{arith}
 use mathlib.Core.Path.{_≡_, refl}
 use mathlib.Core.Bool.{Bool, true, false}
@@ -22,7 +22,7 @@ use Rattle.altitude.specs.Code.{altitude}
 use Rattle.altitude.specs.Lines as altitude-lines
 use Rattle.altitude.proofs.Run.{answer-short}
 use Rattle.parity.specs.Messages.{bits, whole}
-use Rattle.parity.specs.Answers.{Answer, Outcome, done, refusal}
+use Rattle.parity.specs.Answers.{Outcome, done, refusal}
 use Rattle.parity.specs.Division.{remainderOf, remainderAnswer}
 use Rattle.parity.specs.Overlays.{overlayOf, uplinkOverlay}
 use Rattle.parity.specs.Correction.{correction}

@@ -1,8 +1,6 @@
 -- `put_command` compares the first word with each name in turn.
 use mathlib.Core.Path.{_≡_}
 use mathlib.Core.Bool.{false}
-use Prim.Native.Nat.{ℕ}
-use mathlib.Core.List.{List}
 use Rattle.text.specs.Line.{wordsOf}
 use Rattle.text.specs.Plain.{plain}
 use Rattle.commands.specs.Console.{named, commandText}

@@ -2,7 +2,6 @@
 use mathlib.Core.Path.{sym, _∙_}
 use native.Mathlib.Omega.{arith}
 use Rattle.text.proofs.Laid.{put-of, put-none}
-use Rattle.commands.specs.Console.{lineText}
 use Rattle.commands.proofs.Texts.{word-of, no-words, silent, answered}
 use borrow.Author.Needs.{needs}
 use Rattle.commands.proofs.console.put_line.Statement.{statement}

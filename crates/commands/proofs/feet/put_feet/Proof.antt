@@ -1,11 +1,10 @@
 -- `put_feet` reads one number, and lays the answer for it.
-use mathlib.Core.Path.{_≡_, ap}
+use mathlib.Core.Path.{_≡_}
 use mathlib.Core.Bool.{true}
 use lib.Dec.{eqb}
 use lib.ListN.{length}
 use borrow.Author.Tests.{eq-eqb, ne-eqb}
 use Rattle.text.specs.Line.{wordsOf}
-use Rattle.text.proofs.Laid.{put-of}
 use Rattle.commands.specs.Texts.{ofWords, withNumber}
 use Rattle.commands.specs.Feet.{feetText}
 use borrow.Author.Needs.{needs}

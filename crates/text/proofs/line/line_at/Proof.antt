@@ -1,5 +1,4 @@
 -- `line_at` holds the line up to its newline, or nothing at the input's end.
-use native.Mathlib.Omega.{arith}
 use Rattle.text.proofs.Lines.{held-from, held-none}
 use borrow.Author.Needs.{needs}
 use Rattle.text.proofs.line.line_at.Statement.{statement}
