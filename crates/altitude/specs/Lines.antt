@@ -2,6 +2,7 @@
 use Prim.Native.Nat.{ℕ}
 use mathlib.Core.List.{List, [], _∷_, _++_}
 use Rattle.text.specs.Put.{decimal}
+use Rattle.text.specs.Plain.{plain}
 use Rattle.text.specs.Signed.{signedDecimal}
 use Rattle.text.specs.Line.{linesOf, wordsOf}
 use Rattle.text.specs.Run.{linesText}
@@ -14,11 +15,11 @@ use Rattle.altitude.specs.Code.{altitude, numberOf}
 
 -- what stands behind the answer's number, and the line's end: the feet, " none", " metric", or nothing for a refusal
 unfoldable pub valueText : Altitude → List ℕ
-valueText (Feet z) = 32 ∷ (signedDecimal z ++ (10 ∷ []))
-valueText None = 32 ∷ 110 ∷ 111 ∷ 110 ∷ 101 ∷ 10 ∷ []
-valueText Metric = 32 ∷ 109 ∷ 101 ∷ 116 ∷ 114 ∷ 105 ∷ 99 ∷ 10 ∷ []
-valueText Range = 10 ∷ []
-valueText Illegal = 10 ∷ []
+valueText (Feet z) = plain " " ++ (signedDecimal z ++ plain "\n")
+valueText None = plain " none\n"
+valueText Metric = plain " metric\n"
+valueText Range = plain "\n"
+valueText Illegal = plain "\n"
 
 -- an answer's number and its value
 unfoldable pub answerText : Altitude → List ℕ
@@ -26,11 +27,11 @@ answerText a = decimal (numberOf a) ++ valueText a
 
 -- the code and its answer
 unfoldable pub codeText : ℕ → List ℕ
-codeText ac = decimal ac ++ (32 ∷ answerText (altitude ac))
+codeText ac = decimal ac ++ (plain " " ++ answerText (altitude ac))
 
 -- "- 2", for a line that is no number of one to nine digits
 abbrev pub noCode : List ℕ
-noCode = 45 ∷ 32 ∷ 50 ∷ 10 ∷ []
+noCode = plain "- 2\n"
 
 unfoldable pub numberText : Number → List ℕ
 numberText (Is ac) = codeText ac
