@@ -10,4 +10,5 @@ pub mod Sealing
 pub mod Outcomes
 pub mod Invert
 pub mod Unique
+pub mod Done
 pub mod Rebuilt

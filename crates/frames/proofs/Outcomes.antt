@@ -11,19 +11,24 @@ use lib.ListN.{length}
 use borrow.Author.Tests.{eq-eqb, eqb-true}
 use Rattle.lists.specs.Lists.{pick}
 use Rattle.lists.proofs.Tests.{and-true}
-use Rattle.parity.specs.Messages.{whole, AreBytes}
+use Rattle.parity.specs.Messages.{bits, whole, AreBytes}
+use Rattle.parity.specs.Division.{remainderOf}
 use Rattle.parity.specs.Overlays.{overlayOf}
 use Rattle.parity.proofs.Laws.{overlay-lt}
 use Rattle.frames.specs.declared.answers.Built.{Built}
 use Rattle.frames.specs.declared.answers.Built.the-variants.{Done}
 use Rattle.frames.specs.Answers.{Answer, Outcome, done, said, numberOfBuilt, written, refused, own}
+use Rattle.frames.specs.declared.answers.Address.the-variants.{Is}
+use Rattle.frames.specs.Addresses.{addressOf}
 use Rattle.frames.specs.Bytes.{numberOf}
 use Rattle.frames.specs.Fields.{valueAt, atUF, selectiveHead, allCallHead, replyHead, allCallReplyHead}
 use Rattle.frames.specs.Formats.{longFormat, surveillance, lengthOf, listed}
 use Rattle.frames.specs.Building.{selectiveRanged, allCallRanged, replyRanged, allCallReplyRanged, selective, allCall, aReply, anAllCallReply, building, allCalling, replying, allCallReplying}
 use Rattle.frames.specs.Reading.{formatOf, readAs, readUp, readDown, selectiveRead, allCallRead, surveillanceRead, allCallReplyRead}
-use Rattle.frames.specs.Codes.{codeNumber, stationRanged, whose, codeOf}
+use Rattle.frames.specs.Codes.{stationRanged, whose, codeOf}
+use Rattle.frames.specs.Shared.{codeNumber}
 use Rattle.frames.proofs.Heads.{selective-lt, selective-format, selective-fields, all-call-lt, all-call-format, all-call-fields, reply-lt, reply-format, reply-fields, all-call-reply-lt, all-call-reply-format, all-call-reply-fields}
+use Rattle.frames.proofs.Invert.{address-back}
 use Rattle.frames.proofs.Judging.{reads-eleven, reads-others, same, code-whose}
 use Rattle.frames.proofs.Numbers.{number-lt}
 use Rattle.frames.proofs.Ranges.{surveillance-is, surveillance-lt, whole-format, selective-in, all-call-in, reply-in, all-call-reply-in}
@@ -80,6 +85,12 @@ module _ (uf pc rr di sd ma address : ℕ) (hf : surveillance uf ≡ true) (hr :
       surveillance-reads allCallRead selectiveRead (selectiveHead uf pc rr di sd) ma (overlayOf address) (selective uf pc rr di sd ma address) uf hf
       (selective-format uf pc rr di sd (surveillance-lt uf hf) (omega arith) (omega arith) (omega arith) (omega arith)) selective-parts
       ∙ selective-fields uf pc rr di sd (surveillance-lt uf hf) (omega arith) (omega arith) (omega arith) (omega arith) ma (overlayOf address)
+
+  -- the address is found again in the frame
+  pub selective-address : addressOf (remainderOf (bits (selective uf pc rr di sd ma address))) ≡ Is address
+  selective-address =
+      let r = selective-in uf pc rr di sd ma address hr in
+      ap addressOf (selective-parts .remainder-is) ∙ address-back address (omega arith)
 
 module _ (pr ic cl : ℕ) (hr : allCallRanged pr ic cl ≡ true) where
   pub all-call-parts : Parts 7 (allCallHead pr ic cl) 0 (overlayOf 0xFFFFFF) (allCall pr ic cl)

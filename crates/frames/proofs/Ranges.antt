@@ -12,7 +12,8 @@ use Rattle.lists.specs.Lists.{pick}
 use Rattle.lists.proofs.Tests.{and-true, or-true}
 use Rattle.parity.specs.Messages.{whole}
 use Rattle.parity.specs.Overlays.{overlayOf}
-use Rattle.frames.specs.Codes.{codeNumber, stationRanged}
+use Rattle.frames.specs.Codes.{stationRanged}
+use Rattle.frames.specs.Shared.{codeNumber}
 use Rattle.frames.specs.Fields.{selectiveHead, allCallHead, replyHead, allCallReplyHead}
 use Rattle.frames.specs.Formats.{longFormat, surveillance, lengthOf}
 use Rattle.frames.specs.Frames.{framed}

@@ -21,7 +21,7 @@ use Rattle.frames.specs.Formats.{longFormat, surveillance, lengthOf, lis
 use Rattle.frames.specs.Frames.{framed}
 use Rattle.frames.specs.Building.{selectiveRanged, selective, allCall, aReply, anAllCallReply, building}
 use Rattle.frames.specs.Reading.{formatOf, readAs, readUp, readDown, selectiveRead, allCallRead, surveillanceRead, allCallReplyRead}
-use Rattle.frames.specs.Codes.{codeNumber}
+use Rattle.frames.specs.Shared.{codeNumber}
 use Rattle.frames.proofs.Heads.{selective-again, all-call-again, reply-again, all-call-reply-again}
 use Rattle.frames.proofs.Laying.{whole-least}
 use Rattle.frames.proofs.Ranges.{surveillance-is}

@@ -1,14 +1,16 @@
 -- A frame and its parts: what stands in a frame, and that a message is the frame of its own parts.
 -- Assumes nothing.
 use mathlib.Core.Path.{_≡_, refl, sym, ap, ap₂, _∙_}
-use mathlib.Core.Bool.{true}
+use mathlib.Core.Bool.{Bool, true, false}
 use mathlib.Core.List.{List, [], _∷_, _++_, append-nil}
 use mathlib.Core.Logic.{_⊎_, inl, inr}
 use Prim.Native.Nat.{ℕ, zero, suc, _+_, _-_, _*_, _/_, _%_, _<_, _≤_}
 use native.Mathlib.Omega.{arith}
 use lib.Bits.{bitXor, xor-lt}
+use lib.Dec.{eqb}
 use lib.ListN.{length, take, drop, take-append-drop, length-drop}
 use lib.Seq.{length-take-le, take-add}
+use Rattle.lists.specs.Lists.{pick}
 use Rattle.lists.proofs.Xor.{xor-back}
 use Rattle.parity.specs.Messages.{bits, whole, AreBytes}
 use Rattle.parity.specs.Division.{remainderOf}
@@ -17,7 +19,7 @@ use Rattle.frames.specs.Bytes.{bytesOf, numberOf}
 use Rattle.frames.specs.Fields.{headOf, midOf}
 use Rattle.frames.specs.Frames.{front, sealed, framed}
 use Rattle.frames.proofs.Laying.{whole-cases}
-use Rattle.frames.proofs.Numbers.{number-bytes, number-lt, bytes-number}
+use Rattle.frames.proofs.Numbers.{number-bytes, number-lt, bytes-number, bytes-are}
 
 -- ---- the parity
 three-sum : (v : ℕ) → v < 16777216 → v / 65536 % 256 * 65536 + v / 256 % 256 * 256 + v / 1 % 256 ≡ v
@@ -131,3 +133,16 @@ module _ (m : List ℕ) (h : AreBytes m) where
   pub head-lt : 4 ≤ length m → headOf m < 4294967296
   unfolding headOf
   head-lt l = rw (length-take-le 4 m l) at (number-lt (take 4 m) (are-take 4 m h))
+
+-- ---- a frame is bytes
+are-append : (s t : List ℕ) → AreBytes s → AreBytes t → AreBytes (s ++ t)
+are-append [] t hs ht = ht
+are-append (b ∷ s) t hs ht = (hs .0, are-append s t (hs .1) ht)
+
+pub frame-bytes : (n head mid overlay : ℕ) → AreBytes (framed n head mid overlay)
+unfolding front sealed
+frame-bytes n head mid overlay = are-append (bytesOf 4 head ++ pick (eqb n 14) (bytesOf 7 mid) []) (bytesOf 3 _) (are-append (bytesOf 4 head) (pick (eqb n 14) (bytesOf 7 mid) []) (bytes-are 4 head) (go (eqb n 14))) (bytes-are 3 _)
+  where
+    go : (b : Bool) → AreBytes (pick b (bytesOf 7 mid) [])
+    go true = bytes-are 7 mid
+    go false = tt

@@ -21,7 +21,7 @@ use Rattle.frames.specs.declared.answers.Code.the-variants as code
 use Rattle.frames.specs.declared.answers.Interrogator.{Interrogator}
 use Rattle.frames.specs.declared.answers.Interrogator.the-variants.{II, SI, Nobody}
 use Rattle.frames.specs.Answers.{Outcome, Answer, said, upSaid, downSaid, codeSaid}
-use Rattle.frames.specs.Codes.{ofSI, siNumber, codeFor}
+use Rattle.frames.specs.Shared.{ofSI, siNumber, codeFor}
 
 -- ---- builders
 builtBy : Outcome → Built

@@ -12,7 +12,7 @@ use Rattle.frames.specs.Bytes.{numberOf}
 use Rattle.frames.specs.Fields.{selectiveHead, allCallHead, replyHead, allCallReplyHead}
 use Rattle.frames.specs.Formats.{longFormat, surveillance, lengthOf}
 use Rattle.frames.specs.Frames.{framed}
-use Rattle.frames.specs.Codes.{codeNumber}
+use Rattle.frames.specs.Shared.{codeNumber}
 
 -- ---- ranges: "address 1 to 16,777,214"
 abbrev pub anAddress : ℕ → Bool

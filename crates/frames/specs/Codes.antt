@@ -1,6 +1,6 @@
--- Codes: which interrogator CL and IC stand for, and whose code a DF 11 carries. Model and station share these.
+-- Codes: whose code a DF 11 carries, for a station.
 -- Assumes nothing: these are definitions.
-use Prim.Native.Nat.{ℕ, _+_, _-_, _*_}
+use Prim.Native.Nat.{ℕ}
 use mathlib.Core.Bool.{Bool, _&&_, not}
 use mathlib.Core.List.{List}
 use lib.Dec.{eqb, leb}
@@ -8,31 +8,9 @@ use lib.ListN.{length}
 use Rattle.lists.specs.Lists.{pick}
 use Rattle.parity.specs.Messages.{bits, whole}
 use Rattle.parity.specs.Division.{remainderOf}
-use Rattle.frames.specs.declared.answers.Interrogator.{Interrogator}
-use Rattle.frames.specs.declared.answers.Interrogator.the-variants.{II, SI, Nobody}
 use Rattle.frames.specs.Answers.{Answer, done, refusal, own, matchingII, other}
 use Rattle.frames.specs.Reading.{formatOf}
-
--- "the code 16×CL + IC"
-abbrev pub codeNumber : ℕ → ℕ → ℕ
-codeNumber cl ic = 16 * cl + ic
-
--- "CL 1 to 4" are those of SI
-abbrev pub ofSI : ℕ → Bool
-ofSI cl = leb 1 cl && leb cl 4
-
--- "SI = 16×(CL−1)+IC"
-abbrev pub siNumber : ℕ → ℕ → ℕ
-siNumber cl ic = 16 * (cl - 1) + ic
-
--- "CL 0 is II = IC; CL 1 to 4 is SI = 16×(CL−1)+IC; SI 0 and CL 5 to 7 get no reply"
-unfoldable pub codeFor : ℕ → ℕ → Interrogator
-codeFor cl ic =
-    pick (leb ic 15)
-    (pick (eqb cl 0)
-    (II ic)
-    (pick (ofSI cl && not (eqb (siNumber cl ic) 0)) (SI (siNumber cl ic)) Nobody))
-    Nobody
+use Rattle.frames.specs.Shared.{codeNumber, ofSI}
 
 -- CL 0 to 7, IC 0 to 15, and a permission of 0 or 1
 abbrev pub stationRanged : ℕ → ℕ → ℕ → Bool

@@ -3,8 +3,10 @@ pub mod Answers
 pub mod Bytes
 pub mod Fields
 pub mod Formats
+pub mod Shared
 pub mod Frames
 pub mod Building
 pub mod Reading
 pub mod Codes
 pub mod Addresses
+pub mod Examples

@@ -2,7 +2,8 @@
 ghost use mathlib.Core.Path.{_≡_};
 ghost use Prim.Native.Nat.{_<_};
 ghost use Rattle.frames.specs.Answers.{codeSaid, done};
-ghost use Rattle.frames.specs.Codes.{ofSI, codeFor, stationRanged, whose, codeOf};
+ghost use Rattle.frames.specs.Codes.{stationRanged, whose, codeOf};
+ghost use Rattle.frames.specs.Shared.{ofSI, codeFor};
 use crate::answers::Code;
 use crate::answers::Interrogator;
 use crate::frame::code_overlay;

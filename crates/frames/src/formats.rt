@@ -1,6 +1,7 @@
 // The formats: which are listed at which length, and which one a request draws.
 ghost use mathlib.Core.Path.{_≡_};
-ghost use Rattle.frames.specs.Formats.{surveillance, longFormat, lengthOf, listed, shortReply, drawn};
+ghost use Rattle.frames.specs.Formats.{surveillance, longFormat, lengthOf, listed};
+ghost use Rattle.frames.specs.Shared.{shortReply, drawn};
 ghost use Prim.Native.Nat.{_≤_};
 use crate::answers::Draws;
 

@@ -7,7 +7,7 @@ ghost use Prim.Native.Nat.{_-_, _<_};
 ghost use Rattle.parity.specs.Messages.{whole};
 ghost use Rattle.parity.specs.Overlays.{overlayOf};
 ghost use Rattle.frames.specs.Frames.{front, sealed, framed};
-ghost use Rattle.frames.specs.Codes.{codeNumber};
+ghost use Rattle.frames.specs.Shared.{codeNumber};
 use crate::bytes::put;
 use crate::message::remainder_of;
 use parity::Reckoned;

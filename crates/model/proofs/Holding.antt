@@ -1,0 +1,147 @@
+-- Theorems of Comm-B: a reservation implies that a message waits, and a frame removes at most one message.
+-- Assumes nothing.
+use Prim.Native.Nat.{ℕ, zero, suc, _+_, _-_}
+use native.Mathlib.Omega.{arith}
+use mathlib.Core.Path.{_≡_, refl, sym, ap, _∙_, subst}
+use mathlib.Core.Bool.{Bool, true, false, _&&_, not}
+use mathlib.Core.List.{List, [], _∷_, _++_}
+use mathlib.Core.Logic.{_⊎_, inl, inr}
+use lib.ListN.{length, take, drop, length-append}
+use borrow.Author.Tests.{ne-eqb}
+use Rattle.lists.specs.Lists.{pick}
+use Rattle.lists.proofs.Over.{take-over}
+use Rattle.lists.proofs.Tests.{and-true}
+use Rattle.model.specs.declared.state.Holder.{Holder}
+use Rattle.model.specs.declared.state.Holder.the-variants.{Nobody, Held}
+use Rattle.model.specs.declared.state.Messages.{Messages}
+use Rattle.model.specs.declared.state.Transponder.{Transponder}
+use Rattle.model.specs.State.{waiting, waits, messagesWith, messagesAfter, withHolder, withMessages}
+use Rattle.model.specs.Lapse.{isOver, holderAfter, lapse}
+use Rattle.model.specs.Lockout.{iis, commanded, lockout}
+use Rattle.model.specs.CommB.{asksToHold, nobodyElse, reserve, closes, closeout}
+use Rattle.model.specs.Calls.{newborn, steps, taking}
+use Rattle.model.proofs.Came.{of-pick, Came, same, lapsed, stepped, what-a-frame-does}
+
+-- ---- one message less
+front : (k : ℕ) (xs ys : List ℕ) → take (length (take k xs)) (xs ++ ys) ≡ take k xs
+front zero xs ys = refl
+front (suc k) [] ys = refl
+front (suc k) (x ∷ xs) ys = ap {B = List ℕ} (λ v. x ∷ v) (front k xs ys)
+
+less : (l : List ℕ) (n : ℕ) → waiting (messagesAfter (record { list = l; n = n })) ≡ drop 1 (take n l)
+unfolding messagesAfter
+less [] zero = refl
+less [] (suc n) = refl
+less (x ∷ l) zero = refl
+less (x ∷ l) (suc n) =
+    let w : waits (record { list = x ∷ l; n = suc n }) ≡ true = ap not (ne-eqb (suc (length (take n l))) 0 (λ q. omega arith)) in
+    let e : suc (length (take n l)) - 1 ≡ length (take n l) = omega arith in
+    rw (w, e) (front n l (0 ∷ []))
+
+pub waiting-after : (m : Messages) → waiting (messagesAfter m) ≡ drop 1 (waiting m)
+waiting-after m = less (m .list) (m .n)
+
+-- ---- one message more
+pub waiting-with : (v : ℕ) (m : Messages) → waiting (messagesWith v m) ≡ waiting m ++ (v ∷ [])
+unfolding messagesWith
+waiting-with v m =
+    let e : length (waiting m) + 1 ≡ length (waiting m ++ (v ∷ [])) = sym (length-append (waiting m) (v ∷ [])) in
+    rw e (take-over (waiting m ++ (v ∷ [])) (m .list))
+
+-- ---- a frame removes at most one message
+abbrev pub AtMostOne : Messages → Messages → Type 0
+AtMostOne m k = (waiting k ≡ waiting m) ⊎ (waiting k ≡ drop 1 (waiting m))
+
+closeout-one : (pc di sd : ℕ) (t : Transponder) → AtMostOne (t .messages) (closeout pc di sd t .messages)
+unfolding closeout
+closeout-one pc di sd t =
+    of-pick (λ (u : Transponder). AtMostOne (t .messages) (u .messages)) (closes pc di sd (t .holder)) (withMessages (messagesAfter (t .messages)) (withHolder Nobody t)) t (inr (waiting-after (t .messages))) (inl refl)
+
+reserve-same : (di sd : ℕ) (t : Transponder) → reserve di sd t .messages ≡ t .messages
+unfolding reserve
+reserve-same di sd t =
+    of-pick (λ (u : Transponder). u .messages ≡ t .messages) (asksToHold di sd && waits (t .messages) && nobodyElse (iis sd) (t .holder)) (withHolder (Held (iis sd) (t .time)) t) t refl refl
+
+lockout-same : (pc di sd : ℕ) (t : Transponder) → lockout pc di sd t .messages ≡ t .messages
+unfolding lockout commanded
+lockout-same pc di sd t = refl
+
+lapse-same : (now : ℕ) (t : Transponder) → lapse now t .messages ≡ t .messages
+unfolding lapse
+lapse-same now t = refl
+
+steps-one : (pc di sd : ℕ) (t : Transponder) → AtMostOne (t .messages) (steps pc di sd t .messages)
+unfolding steps
+steps-one pc di sd t =
+    subst (λ (m : Messages). AtMostOne m (closeout pc di sd (reserve di sd (lockout pc di sd t)) .messages)) (reserve-same di sd (lockout pc di sd t) ∙ lockout-same pc di sd t)
+    (closeout-one pc di sd (reserve di sd (lockout pc di sd t)))
+
+removes : (t : Transponder) (time : ℕ) (u : Transponder) → Came t time u → AtMostOne (t .messages) (u .messages)
+removes t time u (same e) = inl (ap (λ (x : Transponder). waiting (x .messages)) e)
+removes t time u (lapsed e) = inl (ap (λ (x : Transponder). waiting (x .messages)) e ∙ ap waiting (lapse-same time t))
+removes t time u (stepped pc di sd e) =
+    subst (λ (x : Transponder). AtMostOne (t .messages) (x .messages)) (sym e)
+    (subst (λ (m : Messages). AtMostOne m (steps pc di sd (lapse time t) .messages)) (lapse-same time t) (steps-one pc di sd (lapse time t)))
+
+pub a-frame-removes-at-most-one : (t : Transponder) (time draw : ℕ) (f : List ℕ) → AtMostOne (t .messages) (taking t time draw f .transponder .messages)
+a-frame-removes-at-most-one t time draw f = removes t time (taking t time draw f .transponder) (what-a-frame-does t time draw f)
+
+-- ---- held implies that a message waits: every making gives it, and every call keeps it
+abbrev pub heldWaits : Holder → Messages → Bool
+heldWaits Nobody m = true
+heldWaits (Held ii s) m = waits m
+
+abbrev pub HeldWaits : Transponder → Type 0
+HeldWaits t = heldWaits (t .holder) (t .messages) ≡ true
+
+pub made-held : (address ac id fs ca : ℕ) → HeldWaits (newborn address ac id fs ca)
+unfolding newborn
+made-held address ac id fs ca = refl
+
+one-waits : (v : ℕ) (m : Messages) → waits (messagesWith v m) ≡ true
+one-waits v m =
+    let e : length (waiting (messagesWith v m)) ≡ length (waiting m) + 1 = ap length (waiting-with v m) ∙ length-append (waiting m) (v ∷ []) in
+    ap not (ne-eqb (length (waiting (messagesWith v m))) 0 (λ q. omega arith))
+
+any-holder : (h : Holder) (m : Messages) → waits m ≡ true → heldWaits h m ≡ true
+any-holder Nobody m w = refl
+any-holder (Held ii s) m w = w
+
+pub queued-held : (v : ℕ) (t : Transponder) → HeldWaits (withMessages (messagesWith v (t .messages)) t)
+queued-held v t = any-holder (t .holder) (messagesWith v (t .messages)) (one-waits v (t .messages))
+
+holder-held : (now : ℕ) (h : Holder) (m : Messages) → heldWaits h m ≡ true → heldWaits (holderAfter now h) m ≡ true
+holder-held now Nobody m w = refl
+holder-held now (Held ii s) m w = of-pick (λ (h : Holder). heldWaits h m ≡ true) (isOver now s) Nobody (Held ii s) refl w
+
+pub lapse-held : (now : ℕ) (t : Transponder) → HeldWaits t → HeldWaits (lapse now t)
+unfolding lapse
+lapse-held now t w = holder-held now (t .holder) (t .messages) w
+
+lockout-held : (pc di sd : ℕ) (t : Transponder) → HeldWaits t → HeldWaits (lockout pc di sd t)
+unfolding lockout commanded
+lockout-held pc di sd t w = w
+
+reserve-held : (di sd : ℕ) (t : Transponder) → HeldWaits t → HeldWaits (reserve di sd t)
+unfolding reserve
+reserve-held di sd t w = go (asksToHold di sd && waits (t .messages) && nobodyElse (iis sd) (t .holder)) refl
+  where
+    go : (b : Bool) → asksToHold di sd && waits (t .messages) && nobodyElse (iis sd) (t .holder) ≡ b → HeldWaits (pick b (withHolder (Held (iis sd) (t .time)) t) t)
+    go true e = and-true (asksToHold di sd) (waits (t .messages)) (and-true (asksToHold di sd && waits (t .messages)) (nobodyElse (iis sd) (t .holder)) e .0) .1
+    go false e = w
+
+closeout-held : (pc di sd : ℕ) (t : Transponder) → HeldWaits t → HeldWaits (closeout pc di sd t)
+unfolding closeout
+closeout-held pc di sd t w = of-pick HeldWaits (closes pc di sd (t .holder)) (withMessages (messagesAfter (t .messages)) (withHolder Nobody t)) t refl w
+
+steps-held : (pc di sd : ℕ) (t : Transponder) → HeldWaits t → HeldWaits (steps pc di sd t)
+unfolding steps
+steps-held pc di sd t w = closeout-held pc di sd (reserve di sd (lockout pc di sd t)) (reserve-held di sd (lockout pc di sd t) (lockout-held pc di sd t w))
+
+came-held : (t : Transponder) (time : ℕ) (u : Transponder) → Came t time u → HeldWaits t → HeldWaits u
+came-held t time u (same e) w = subst HeldWaits (sym e) w
+came-held t time u (lapsed e) w = subst HeldWaits (sym e) (lapse-held time t w)
+came-held t time u (stepped pc di sd e) w = subst HeldWaits (sym e) (steps-held pc di sd (lapse time t) (lapse-held time t w))
+
+pub taken-held : (t : Transponder) (time draw : ℕ) (f : List ℕ) → HeldWaits t → HeldWaits (taking t time draw f .transponder)
+taken-held t time draw f w = came-held t time (taking t time draw f .transponder) (what-a-frame-does t time draw f) w

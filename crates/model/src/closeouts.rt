@@ -1,0 +1,44 @@
+// The closeout of the first message.
+ghost use mathlib.Core.Path.{_≡_};
+ghost use Rattle.model.specs.CommB.{closesFor, closes, closeout};
+use crate::keeping::keeping;
+use crate::lockouts::iis;
+use crate::messages::drop_first;
+use crate::state::Holder;
+use crate::state::Transponder;
+
+// Whether DI and SD close out what an II holds.
+fn closes_for(ii: u8, di: u8, sd: u16) -> bool
+    ensures { λ r. ⌜ r ≡ closesFor ii di sd ⌝ }
+{
+    if di != 1 {
+        return false;
+    }
+    if (sd / 1024) % 4 != 2 {
+        return false;
+    }
+    iis(sd) == ii
+}
+
+// Whether a frame closes out, by who holds.
+fn closes(pc: u8, di: u8, sd: u16, h: Holder) -> bool
+    ensures { λ r. ⌜ r ≡ closes pc di sd h ⌝ }
+{
+    match h {
+        Holder::Nobody => pc == 4,
+        Holder::Held { ii, since: _ } => closes_for(ii, di, sd),
+    }
+}
+
+// The first message and the reservation go, where the frame closes out.
+pub(crate) fn closeout(pc: u8, di: u8, sd: u16, t: Transponder) -> Transponder
+    ensures { λ r. ⌜ r ≡ closeout pc di sd t ⌝ }
+{
+    let h = t.holder;
+    if !closes(pc, di, sd, h) {
+        return t;
+    }
+    let holder = Holder::Nobody;
+    let messages = drop_first(t.messages);
+    keeping(t, t.time, t.timers, holder, messages)
+}

@@ -1,0 +1,82 @@
+// Who a frame is for, and the steps of a selective interrogation.
+ghost use mathlib.Core.Path.{_≡_};
+ghost use Rattle.model.specs.Calls.{laidOver, interrogated, heardSelective, heardAllCall};
+use crate::all_calls::answer_all_call;
+use crate::closeouts::closeout;
+use crate::lockouts::lockout;
+use crate::reservations::reserve;
+use crate::responses::respond;
+use crate::sending::silence;
+use crate::state::Transponder;
+use crate::state::Went;
+use parity::Reckoned;
+
+// Whether a remainder is the uplink overlay of a number of 24 bits.
+fn laid_over(address: u32, remainder: u32) -> bool
+    ensures { λ r. ⌜ r ≡ laidOver address remainder ⌝ }
+{
+    match parity::uplink_overlay(address) {
+        Reckoned::Is(v) => remainder == v,
+        Reckoned::Length => false,
+        Reckoned::Range => false,
+    }
+}
+
+// Lockout, reservation and closeout, reply.
+fn interrogated(uf: u8, pc: u8, rr: u8, di: u8, sd: u16, t: Transponder) -> Went
+    ensures { λ r. ⌜ r ≡ interrogated uf pc rr di sd t ⌝ }
+{
+    let a = lockout(pc, di, sd, t);
+    let b = reserve(di, sd, a);
+    let u = closeout(pc, di, sd, b);
+    let sent = respond(uf, rr, di, sd, u);
+    Went {
+        transponder: u,
+        sent,
+    }
+}
+
+// UF 4, 5, 20 or 21.
+pub(crate) fn heard_selective(
+    uf: u8,
+    pc: u8,
+    rr: u8,
+    di: u8,
+    sd: u16,
+    remainder: u32,
+    t: Transponder,
+) -> Went
+    ensures { λ r. ⌜ r ≡ heardSelective uf pc rr di sd remainder t ⌝ }
+{
+    if !laid_over(t.address, remainder) {
+        return Went {
+            transponder: t,
+            sent: silence(),
+        };
+    }
+    interrogated(uf, pc, rr, di, sd, t)
+}
+
+// UF 11.
+pub(crate) fn heard_all_call(
+    pr: u8,
+    ic: u8,
+    cl: u8,
+    remainder: u32,
+    draw: u32,
+    t: Transponder,
+) -> Went
+    ensures { λ r. ⌜ r ≡ heardAllCall pr ic cl remainder draw t ⌝ }
+{
+    if !laid_over(0xFF_FFFF, remainder) {
+        return Went {
+            transponder: t,
+            sent: silence(),
+        };
+    }
+    let sent = answer_all_call(pr, ic, cl, draw, t);
+    Went {
+        transponder: t,
+        sent,
+    }
+}
