@@ -1,12 +1,12 @@
 -- Every line's text fits 512 bytes.
-use Prim.Native.Nat.{ℕ, _+_, _≤_}
+use Prim.Native.Nat.{ℕ, _+_, _≤_, _<_}
 use native.Mathlib.Omega.{arith}
 use mathlib.Core.Path.{_≡_, refl}
 use mathlib.Core.Bool.{Bool, true, false}
 use mathlib.Core.List.{List, [], _∷_, _++_}
 use mathlib.Core.Option.{Option, some, none}
 use lib.Dec.{eqb, ltb}
-use lib.ListN.{length, replicate, length-append, length-replicate}
+use lib.ListN.{length, take, drop, replicate, length-append, length-take, length-replicate}
 use Rattle.lists.specs.Lists.{pick}
 use Rattle.text.specs.Put.{decimal}
 use Rattle.text.specs.Plain.{plain}
@@ -27,8 +27,12 @@ use Rattle.parity.specs.Division.{remainderOf, remainderAnswer}
 use Rattle.parity.specs.Overlays.{overlayOf, uplinkOverlay}
 use Rattle.parity.specs.Correction.{correction}
 use Rattle.parity.proofs.Sizes.{Small, outcome-small}
+use Rattle.frames.specs.Answers as frames
+use Rattle.frames.specs.Formats.{longFormat, listed}
+use Rattle.frames.specs.Reading.{formatOf, readAs, allCallReplyRead, surveillanceRead, mbPart}
 use Rattle.commands.specs.Texts.{unread, word, ofWords, withNumber, withBytes, doneText, refusalText, answerText}
 use Rattle.commands.specs.Parity.{reckonedText, correctedText, remainderText, overlayText, fixedText, correctText}
+use Rattle.commands.specs.Frames.{numberText, numbersText, fieldsText, endText, valuesText, readText, replyText, downText}
 use Rattle.commands.specs.Feet.{feetText}
 use Rattle.commands.specs.Help.{wordsHelp, helpText}
 use Rattle.commands.specs.Console.{named, comment, commandText, wordsText, lineText}
@@ -65,7 +69,7 @@ with-bytes-fits w f h = bytes-by w (bytesIn w) f refl h
 
 -- ---- the text of an answer
 
-answer-fits : (n : ℕ) (v : List ℕ) → n ≤ 13 → length v ≤ 80 → length (answerText n v) ≤ room
+answer-fits : (n : ℕ) (v : List ℕ) → n ≤ 14 → length v ≤ 80 → length (answerText n v) ≤ room
 unfolding answerText doneText refusalText
 answer-fits n v h k =
     either-fits (eqb n 0) (plain "0 " ++ (v ++ plain "\n")) (decimal n ++ plain "\n")
@@ -75,12 +79,12 @@ answer-fits n v h k =
 reckoned-fits : (t : Bool) (v n : ℕ) → n ≤ 13 → length (reckonedText (pick t (done v) (refusal n))) ≤ room
 unfolding reckonedText
 reckoned-fits true v n h = answer-fits 0 (hexIn 6 v) (omega arith) (omega (arith, hex-length 6 v))
-reckoned-fits false v n h = answer-fits n (hexIn 6 0) h (omega (arith, hex-length 6 0))
+reckoned-fits false v n h = answer-fits n (hexIn 6 0) (omega arith) (omega (arith, hex-length 6 0))
 
 corrected-fits : (o : Outcome) (size : ℕ) → size ≤ 32 → Small size o → length (correctedText o) ≤ room
 unfolding correctedText
 corrected-fits o size k s =
-    answer-fits (o .number) (hexOf (o .output) ++ (plain " " ++ decimal (o .flips))) (s .number)
+    answer-fits (o .number) (hexOf (o .output) ++ (plain " " ++ decimal (o .flips))) (omega (arith, s .number))
     (simp length-append (omega (arith, hex-of-length (o .output), s .output, decimal-length 1 (o .flips) (omega (arith, s .flips)))))
 
 fixed-fits : (msg marks : List ℕ) (overlay limit : ℕ) → length msg ≤ 32 → length (fixedText msg marks overlay limit) ≤ room
@@ -88,6 +92,59 @@ unfolding fixedText
 fixed-fits msg marks overlay limit h =
     corrected-fits (correction msg marks overlay limit (replicate (length msg) 0)) (length (replicate {A = ℕ} (length msg) 0))
     (omega (arith, length-replicate {A = ℕ} (length msg) 0)) (outcome-small msg marks overlay limit (replicate (length msg) 0))
+
+-- ---- a frame that is read
+
+number-fits : (n : ℕ) → n < 100000000 → length (numberText n) ≤ 9
+unfolding numberText
+number-fits n h = simp length-append (omega (arith, decimal-length 7 n (omega arith)))
+
+part-fits : (msg : List ℕ) → length (mbPart msg) ≤ 7
+part-fits msg = go (eqb (length msg) 14)
+  where
+    go : (t : Bool) → length (pick t (take 7 (drop 4 msg)) []) ≤ 7
+    go true = simp length-take (omega arith)
+    go false = omega arith
+
+end-fits : (f : ℕ) (part : List ℕ) (r : ℕ) → length part ≤ 7 → length (endText f part r) ≤ 21
+unfolding endText
+end-fits f part r h = go (longFormat f)
+  where
+    go : (t : Bool) → length (pick t (hexOf part ++ (plain " " ++ hexIn 6 r)) (hexIn 6 r)) ≤ 21
+    go true = simp length-append (omega (arith, hex-of-length part, hex-length 6 r))
+    go false = omega (arith, hex-length 6 r)
+
+seven-fits : (f a b c d m r : ℕ) (part : List ℕ) → f < 100000000 → a < 100000000 → b < 100000000 → c < 100000000 → d < 100000000 → length part ≤ 7
+    → length (readText (frames.done (f ∷ a ∷ b ∷ c ∷ d ∷ m ∷ r ∷ [])) part) ≤ room
+unfolding readText valuesText numbersText
+seven-fits f a b c d m r part hf ha hb hc hd hp =
+    answer-fits 0 (numberText f ++ (numberText a ++ (numberText b ++ (numberText c ++ (numberText d ++ endText f part r))))) (omega arith)
+    (simp length-append (omega (arith, number-fits f hf, number-fits a ha, number-fits b hb, number-fits c hc, number-fits d hd, end-fits f part r hp)))
+
+four-fits : (f a b r : ℕ) (part : List ℕ) → f < 100000000 → a < 100000000 → b < 100000000 → length (readText (frames.done (f ∷ a ∷ b ∷ r ∷ [])) part) ≤ room
+unfolding readText valuesText fieldsText
+four-fits f a b r part hf ha hb =
+    answer-fits 0 (numberText f ++ (numberText a ++ (numberText b ++ hexIn 6 r))) (omega arith)
+    (simp length-append (omega (arith, number-fits f hf, number-fits a ha, number-fits b hb, hex-length 6 r)))
+
+refused-fits : (n : ℕ) (part : List ℕ) → n ≤ 14 → length (readText (frames.refusal n) part) ≤ room
+unfolding readText valuesText fieldsText
+refused-fits n part h = answer-fits n [] h (omega arith)
+
+-- what a reading answers, one of four
+read-fits : (t u v : Bool) (x y : frames.Answer) (part : List ℕ) → length (readText x part) ≤ room → length (readText y part) ≤ room
+    → length (readText (pick t (pick u (pick v x y) (frames.refusal 14)) (frames.refusal 1)) part) ≤ room
+read-fits true true true x y part h k = h
+read-fits true true false x y part h k = k
+read-fits true false v x y part h k = refused-fits 14 part (omega arith)
+read-fits false u v x y part h k = refused-fits 1 part (omega arith)
+
+reply-fits : (msg : List ℕ) → length (replyText msg) ≤ room
+unfolding replyText readAs allCallReplyRead surveillanceRead
+reply-fits msg =
+    read-fits (whole (length msg)) (listed (formatOf msg) (length msg)) (eqb (formatOf msg) 11) _ _ (mbPart msg)
+    (four-fits 11 _ _ _ (mbPart msg) (omega arith) (omega arith) (omega arith))
+    (seven-fits _ _ _ _ _ _ _ (mbPart msg) (omega arith) (omega arith) (omega arith) (omega arith) (omega arith) (part-fits msg))
 
 -- ---- the lines
 
@@ -114,6 +171,10 @@ module _ (ws : List (List ℕ)) where
       with-number-fits (numberIn 10 (word 3 ws)) _ (λ overlay.
       with-number-fits (numberIn 10 (word 4 ws)) _ (λ limit. fixed-fits msg marks overlay limit h)))))
 
+  down-fits : length (downText ws) ≤ room
+  unfolding downText
+  down-fits = of-words-fits 2 ws (withBytes (bytesIn (word 1 ws)) replyText) (with-bytes-fits (word 1 ws) replyText (λ msg h. reply-fits msg))
+
   feet-fits : length (feetText ws) ≤ room
   unfolding feetText
   feet-fits =
@@ -130,8 +191,9 @@ module _ (ws : List (List ℕ)) where
       either-fits (named "remainder" ws) (remainderText ws) _ remainder-fits
       (either-fits (named "overlay" ws) (overlayText ws) _ overlay-fits
       (either-fits (named "correct" ws) (correctText ws) _ correct-fits
+      (either-fits (named "down" ws) (downText ws) _ down-fits
       (either-fits (named "feet" ws) (feetText ws) _ feet-fits
-      (either-fits (named "help" ws) (helpText ws) unread help-fits unread-fits))))
+      (either-fits (named "help" ws) (helpText ws) unread help-fits unread-fits)))))
 
 words-fit : (ws : List (List ℕ)) → length (wordsText ws) ≤ room
 unfolding wordsText

@@ -3,7 +3,9 @@ mod answers;
 mod console;
 mod correction;
 mod feet;
+mod fields;
 mod help;
+mod reading;
 mod reckoning;
 mod words;
 

@@ -25,6 +25,9 @@ start-4 c = start-3 (c .before .before .before)
 abbrev start-5 : tie.Else5 → tie.Start
 start-5 c = start-4 (c .before .before .before)
 
+abbrev start-6 : tie.Else6 → tie.Start
+start-6 c = start-5 (c .before .before .before)
+
 -- the names that the word is not
 no-1 : (c : tie.Else1) → named "remainder" (wordsOf (start-1 c .args .line .now)) ≡ false
 no-1 c = compared (plain "remainder") (start-1 c .pre) (c .before .same .ensures) (c .if1 .left)
@@ -35,11 +38,14 @@ no-2 c = compared (plain "overlay") (start-2 c .pre) (c .before .same2 .ensures)
 no-3 : (c : tie.Else3) → named "correct" (wordsOf (start-3 c .args .line .now)) ≡ false
 no-3 c = compared (plain "correct") (start-3 c .pre) (c .before .same3 .ensures) (c .if3 .left)
 
-no-4 : (c : tie.Else4) → named "feet" (wordsOf (start-4 c .args .line .now)) ≡ false
-no-4 c = compared (plain "feet") (start-4 c .pre) (c .before .same4 .ensures) (c .if4 .left)
+no-4 : (c : tie.Else4) → named "down" (wordsOf (start-4 c .args .line .now)) ≡ false
+no-4 c = compared (plain "down") (start-4 c .pre) (c .before .same4 .ensures) (c .if4 .left)
 
-no-5 : (c : tie.Else5) → named "help" (wordsOf (start-5 c .args .line .now)) ≡ false
-no-5 c = compared (plain "help") (start-5 c .pre) (c .before .same5 .ensures) (c .if5 .left)
+no-5 : (c : tie.Else5) → named "feet" (wordsOf (start-5 c .args .line .now)) ≡ false
+no-5 c = compared (plain "feet") (start-5 c .pre) (c .before .same5 .ensures) (c .if5 .left)
+
+no-6 : (c : tie.Else6) → named "help" (wordsOf (start-6 c .args .line .now)) ≡ false
+no-6 c = compared (plain "help") (start-6 c .pre) (c .before .same6 .ensures) (c .if6 .left)
 
 slice-aggregate-same : tie.Need-slice-aggregate-same
 slice-aggregate-same c = search needs
@@ -100,8 +106,8 @@ slice-aggregate-same-4 c = search needs
 same-requires-4 : tie.Need-same-requires-4
 same-requires-4 c κs = search needs
 
-put-feet-requires : tie.Need-put-feet-requires
-put-feet-requires c κs = search needs
+put-down-requires : tie.Need-put-down-requires
+put-down-requires c κs = search needs
 
 same-length-4 : tie.Need-same-length-4
 same-length-4 c = search needs
@@ -112,7 +118,7 @@ returns-4 c =
     let e3 = c .before .before .before .before .before .before .before in
     let e2 = e3 .before .before .before in
     let e1 = e2 .before .before .before in
-    rw (no-1 e1, no-2 e2, no-3 e3, compared (plain "feet") (e1 .before .before .before .before .before .before .pre) (c .before .before .before .before .before .same4 .ensures) (c .before .before .before .before .if4 .taken)) (c .before .before .put-feet .ensures)
+    rw (no-1 e1, no-2 e2, no-3 e3, compared (plain "down") (e1 .before .before .before .before .before .before .pre) (c .before .before .before .before .before .same4 .ensures) (c .before .before .before .before .if4 .taken)) (c .before .before .put-down .ensures)
 
 slice-aggregate-same-5 : tie.Need-slice-aggregate-same-5
 slice-aggregate-same-5 c = search needs
@@ -120,8 +126,8 @@ slice-aggregate-same-5 c = search needs
 same-requires-5 : tie.Need-same-requires-5
 same-requires-5 c κs = search needs
 
-put-help-requires : tie.Need-put-help-requires
-put-help-requires c κs = search needs
+put-feet-requires : tie.Need-put-feet-requires
+put-feet-requires c κs = search needs
 
 same-length-5 : tie.Need-same-length-5
 same-length-5 c = search needs
@@ -133,10 +139,16 @@ returns-5 c =
     let e3 = e4 .before .before .before in
     let e2 = e3 .before .before .before in
     let e1 = e2 .before .before .before in
-    rw (no-1 e1, no-2 e2, no-3 e3, no-4 e4, compared (plain "help") (e1 .before .before .before .before .before .before .pre) (c .before .before .before .before .before .same5 .ensures) (c .before .before .before .before .if5 .taken)) (c .before .before .put-help .ensures)
+    rw (no-1 e1, no-2 e2, no-3 e3, no-4 e4, compared (plain "feet") (e1 .before .before .before .before .before .before .pre) (c .before .before .before .before .before .same5 .ensures) (c .before .before .before .before .if5 .taken)) (c .before .before .put-feet .ensures)
 
-put-unread-requires : tie.Need-put-unread-requires
-put-unread-requires c κs = search needs
+slice-aggregate-same-6 : tie.Need-slice-aggregate-same-6
+slice-aggregate-same-6 c = search needs
+
+same-requires-6 : tie.Need-same-requires-6
+same-requires-6 c κs = search needs
+
+put-help-requires : tie.Need-put-help-requires
+put-help-requires c κs = search needs
 
 same-length-6 : tie.Need-same-length-6
 same-length-6 c = search needs
@@ -144,12 +156,29 @@ same-length-6 c = search needs
 returns-6 : tie.Need-returns-6
 unfolding commandText
 returns-6 c =
-    let e5 = c .before .before .before .before in
+    let e5 = c .before .before .before .before .before .before .before in
     let e4 = e5 .before .before .before in
     let e3 = e4 .before .before .before in
     let e2 = e3 .before .before .before in
     let e1 = e2 .before .before .before in
-    rw (no-1 e1, no-2 e2, no-3 e3, no-4 e4, no-5 e5) (c .before .before .put-unread .ensures)
+    rw (no-1 e1, no-2 e2, no-3 e3, no-4 e4, no-5 e5, compared (plain "help") (e1 .before .before .before .before .before .before .pre) (c .before .before .before .before .before .same6 .ensures) (c .before .before .before .before .if6 .taken)) (c .before .before .put-help .ensures)
+
+put-unread-requires : tie.Need-put-unread-requires
+put-unread-requires c κs = search needs
+
+same-length-7 : tie.Need-same-length-7
+same-length-7 c = search needs
+
+returns-7 : tie.Need-returns-7
+unfolding commandText
+returns-7 c =
+    let e6 = c .before .before .before .before in
+    let e5 = e6 .before .before .before in
+    let e4 = e5 .before .before .before in
+    let e3 = e4 .before .before .before in
+    let e2 = e3 .before .before .before in
+    let e1 = e2 .before .before .before in
+    rw (no-1 e1, no-2 e2, no-3 e3, no-4 e4, no-5 e5, no-6 e6) (c .before .before .put-unread .ensures)
 
 pub put-command-spec : {M : Type 1} → statement M
 put-command-spec =
@@ -172,14 +201,19 @@ put-command-spec =
     returns-3
     slice-aggregate-same-4
     same-requires-4
-    put-feet-requires
+    put-down-requires
     same-length-4
     returns-4
     slice-aggregate-same-5
     same-requires-5
-    put-help-requires
+    put-feet-requires
     same-length-5
     returns-5
-    put-unread-requires
+    slice-aggregate-same-6
+    same-requires-6
+    put-help-requires
     same-length-6
-    returns-6)
+    returns-6
+    put-unread-requires
+    same-length-7
+    returns-7)

@@ -1,0 +1,12 @@
+-- The texts of frames from what the calls answered.
+use Prim.Native.Nat.{ℕ}
+use mathlib.Core.Path.{_≡_}
+use mathlib.Core.List.{List}
+use Rattle.frames.specs.Answers.{Answer}
+use Rattle.frames.specs.Reading.{readDown, mbPart}
+use Rattle.commands.specs.Frames.{readText, replyText}
+
+-- a reply that was read
+pub as-reply : (msg : List ℕ) {a : Answer} {part : List ℕ} → a ≡ readDown msg → part ≡ mbPart msg → readText a part ≡ replyText msg
+unfolding replyText
+as-reply msg e f = rw (e, f)

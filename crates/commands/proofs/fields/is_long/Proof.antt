@@ -1,0 +1,13 @@
+-- `is_long` compares with the two numbers.
+use borrow.Author.Tests.{eq-eqb, ne-eqb}
+use Rattle.commands.proofs.fields.is_long.Statement.{statement}
+use Rattle.commands.proofs.fields.is_long.Tie as tie
+
+returns : tie.Need-returns
+returns c = simp (eq-eqb _ _ (c .if1 .taken))
+
+returns-2 : tie.Need-returns-2
+returns-2 c = simp (ne-eqb _ _ (c .if1 .left))
+
+pub is-long-spec : {M : Type 1} → statement M
+is-long-spec = tie.close (tie.spec returns returns-2)
