@@ -2,7 +2,7 @@
 use Prim.Native.Nat.{ℕ, _+_, _≤_, _<_}
 use native.Mathlib.Omega.{arith}
 use mathlib.Core.Path.{_≡_, refl}
-use mathlib.Core.Bool.{Bool, true, false}
+use mathlib.Core.Bool.{Bool, true, false, _&&_}
 use mathlib.Core.List.{List, [], _∷_, _++_}
 use mathlib.Core.Option.{Option, some, none}
 use lib.Dec.{eqb, ltb}
@@ -10,7 +10,7 @@ use lib.ListN.{length, take, drop, replicate, length-append, length-take, length
 use Rattle.lists.specs.Lists.{pick}
 use Rattle.text.specs.Put.{decimal}
 use Rattle.text.specs.Plain.{plain}
-use Rattle.text.specs.Line.{wordsOf}
+use Rattle.text.specs.Line.{wordsOf, sameAs}
 use Rattle.text.specs.Number.{numberIn}
 use Rattle.text.specs.Hex.{hexIn, hexOf, bytesIn}
 use Rattle.text.specs.declared.answer.Number.{Number}
@@ -29,10 +29,11 @@ use Rattle.parity.specs.Correction.{correction}
 use Rattle.parity.proofs.Sizes.{Small, outcome-small}
 use Rattle.frames.specs.Answers as frames
 use Rattle.frames.specs.Formats.{longFormat, listed}
+use Rattle.frames.specs.Codes.{stationRanged, whose, codeOf}
 use Rattle.frames.specs.Reading.{formatOf, readAs, allCallReplyRead, surveillanceRead, mbPart}
 use Rattle.commands.specs.Texts.{unread, word, ofWords, withNumber, withBytes, doneText, refusalText, answerText}
 use Rattle.commands.specs.Parity.{reckonedText, correctedText, remainderText, overlayText, fixedText, correctText}
-use Rattle.commands.specs.Frames.{numberText, numbersText, fieldsText, endText, valuesText, readText, replyText, downText}
+use Rattle.commands.specs.Frames.{numberText, numbersText, fieldsText, endText, valuesText, readText, replyText, downText, codeWord, whoseText, codeText}
 use Rattle.commands.specs.Feet.{feetText}
 use Rattle.commands.specs.Help.{wordsHelp, helpText}
 use Rattle.commands.specs.Console.{named, comment, commandText, wordsText, lineText}
@@ -146,6 +147,28 @@ reply-fits msg =
     (four-fits 11 _ _ _ (mbPart msg) (omega arith) (omega arith) (omega arith))
     (seven-fits _ _ _ _ _ _ _ (mbPart msg) (omega arith) (omega arith) (omega arith) (omega arith) (omega arith) (part-fits msg))
 
+-- ---- whose code a reply carries
+
+code-word-fits : (vs : List ℕ) → length (codeWord vs) ≤ 80
+unfolding codeWord
+code-word-fits vs = go (sameAs vs frames.own) (sameAs vs frames.matchingII)
+  where
+    go : (t u : Bool) → length (pick t (plain "own") (pick u (plain "matching") (plain "other"))) ≤ 80
+    go true u = omega arith
+    go false true = omega arith
+    go false false = omega arith
+
+code-number : (t u v : Bool) (x : List ℕ) → pick t (pick u (pick v (frames.done x) (frames.refusal 14)) (frames.refusal 2)) (frames.refusal 1) .number ≤ 14
+code-number true true true x = omega arith
+code-number true true false x = omega arith
+code-number true false v x = omega arith
+code-number false u v x = omega arith
+
+whose-fits : (msg : List ℕ) (cl ic permit : ℕ) → length (whoseText (codeOf msg cl ic permit)) ≤ room
+unfolding whoseText codeOf
+whose-fits msg cl ic permit =
+    answer-fits _ _ (code-number (whole (length msg)) (stationRanged cl ic permit) (eqb (length msg) 7 && eqb (formatOf msg) 11) (whose (remainderOf (bits msg)) cl ic permit)) (code-word-fits _)
+
 -- ---- the lines
 
 module _ (ws : List (List ℕ)) where
@@ -175,6 +198,15 @@ module _ (ws : List (List ℕ)) where
   unfolding downText
   down-fits = of-words-fits 2 ws (withBytes (bytesIn (word 1 ws)) replyText) (with-bytes-fits (word 1 ws) replyText (λ msg h. reply-fits msg))
 
+  code-fits : length (codeText ws) ≤ room
+  unfolding codeText
+  code-fits =
+      of-words-fits 5 ws _
+      (with-bytes-fits (word 1 ws) _ (λ msg h.
+      with-number-fits (numberIn 10 (word 2 ws)) _ (λ cl.
+      with-number-fits (numberIn 10 (word 3 ws)) _ (λ ic.
+      with-number-fits (numberIn 10 (word 4 ws)) _ (λ permit. whose-fits msg cl ic permit)))))
+
   feet-fits : length (feetText ws) ≤ room
   unfolding feetText
   feet-fits =
@@ -192,8 +224,9 @@ module _ (ws : List (List ℕ)) where
       (either-fits (named "overlay" ws) (overlayText ws) _ overlay-fits
       (either-fits (named "correct" ws) (correctText ws) _ correct-fits
       (either-fits (named "down" ws) (downText ws) _ down-fits
+      (either-fits (named "code" ws) (codeText ws) _ code-fits
       (either-fits (named "feet" ws) (feetText ws) _ feet-fits
-      (either-fits (named "help" ws) (helpText ws) unread help-fits unread-fits)))))
+      (either-fits (named "help" ws) (helpText ws) unread help-fits unread-fits))))))
 
 words-fit : (ws : List (List ℕ)) → length (wordsText ws) ≤ room
 unfolding wordsText

@@ -10,7 +10,7 @@ use Rattle.text.specs.Plain.{plain}
 use Rattle.text.specs.Run.{linesText}
 use Rattle.commands.specs.Texts.{word, unread}
 use Rattle.commands.specs.Parity.{remainderText, overlayText, correctText}
-use Rattle.commands.specs.Frames.{downText}
+use Rattle.commands.specs.Frames.{downText, codeText}
 use Rattle.commands.specs.Feet.{feetText}
 use Rattle.commands.specs.Help.{helpText}
 
@@ -25,9 +25,10 @@ commandText ws =
     (pick (named "overlay" ws) (overlayText ws)
     (pick (named "correct" ws) (correctText ws)
     (pick (named "down" ws) (downText ws)
+    (pick (named "code" ws) (codeText ws)
     (pick (named "feet" ws) (feetText ws)
     (pick (named "help" ws) (helpText ws)
-    unread)))))
+    unread))))))
 
 -- the word begins with `#`
 unfoldable pub comment : List ℕ → Bool

@@ -1,4 +1,4 @@
--- The lines of frames: `down HEX`.
+-- The lines of frames: `down HEX`, `code HEX CL IC PERMIT`.
 use Prim.Native.Nat.{ℕ}
 use mathlib.Core.List.{List, [], _∷_, _++_}
 use lib.Dec.{eqb}
@@ -7,10 +7,13 @@ use Rattle.lists.specs.Lists.{pick}
 use Rattle.text.specs.Put.{decimal}
 use Rattle.text.specs.Plain.{plain}
 use Rattle.text.specs.Hex.{hexIn, hexOf, bytesIn}
-use Rattle.frames.specs.Answers.{Answer}
+use Rattle.text.specs.Line.{sameAs}
+use Rattle.text.specs.Number.{numberIn}
+use Rattle.frames.specs.Answers.{Answer, own, matchingII}
 use Rattle.frames.specs.Formats.{longFormat}
 use Rattle.frames.specs.Reading.{readDown, mbPart}
-use Rattle.commands.specs.Texts.{word, ofWords, withBytes, answerText}
+use Rattle.frames.specs.Codes.{codeOf}
+use Rattle.commands.specs.Texts.{word, ofWords, withNumber, withBytes, answerText}
 
 -- ---- a frame that is read
 
@@ -48,3 +51,21 @@ replyText msg = readText (readDown msg) (mbPart msg)
 
 unfoldable pub downText : List (List ℕ) → List ℕ
 downText ws = ofWords 2 ws (withBytes (bytesIn (word 1 ws)) replyText)
+
+-- ---- whose code a reply carries
+
+-- `own`, `matching` or `other`
+unfoldable pub codeWord : List ℕ → List ℕ
+codeWord vs = pick (sameAs vs own) (plain "own") (pick (sameAs vs matchingII) (plain "matching") (plain "other"))
+
+unfoldable pub whoseText : Answer → List ℕ
+whoseText a = answerText (a .number) (codeWord (a .values))
+
+unfoldable pub codeText : List (List ℕ) → List ℕ
+codeText ws =
+    ofWords 5 ws
+    (withBytes (bytesIn (word 1 ws)) (λ msg.
+    withNumber (numberIn 10 (word 2 ws)) (λ cl.
+    withNumber (numberIn 10 (word 3 ws)) (λ ic.
+    withNumber (numberIn 10 (word 4 ws)) (λ permit.
+    whoseText (codeOf msg cl ic permit))))))

@@ -6,6 +6,7 @@ ghost use Rattle.text.specs.Run.{TookLine};
 ghost use Rattle.commands.specs.Texts.{word};
 ghost use Rattle.commands.specs.Console.{commandText, comment, lineText};
 use crate::answers::put_unread;
+use crate::code::put_code;
 use crate::correction::put_correct;
 use crate::feet::put_feet;
 use crate::help::put_help;
@@ -30,6 +31,9 @@ fn put_command(line: &[u8], name: &[u8], out: &mut [u8]) -> usize
     }
     if text::same(name, b"down") {
         return put_down(line, out);
+    }
+    if text::same(name, b"code") {
+        return put_code(line, out);
     }
     if text::same(name, b"feet") {
         return put_feet(line, out);

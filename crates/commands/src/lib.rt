@@ -1,5 +1,6 @@
 // The lines of the bench console, as their very bytes: each line is one call of the library, and its answer in text.
 mod answers;
+mod code;
 mod console;
 mod correction;
 mod feet;
