@@ -30,10 +30,10 @@ use Rattle.parity.proofs.Sizes.{Small, outcome-small}
 use Rattle.frames.specs.Answers as frames
 use Rattle.frames.specs.Formats.{longFormat, listed}
 use Rattle.frames.specs.Codes.{stationRanged, whose, codeOf}
-use Rattle.frames.specs.Reading.{formatOf, readAs, allCallReplyRead, surveillanceRead, mbPart}
+use Rattle.frames.specs.Reading.{formatOf, readAs, allCallRead, selectiveRead, allCallReplyRead, surveillanceRead, mbPart}
 use Rattle.commands.specs.Texts.{unread, word, ofWords, withNumber, withBytes, doneText, refusalText, answerText}
 use Rattle.commands.specs.Parity.{reckonedText, correctedText, remainderText, overlayText, fixedText, correctText}
-use Rattle.commands.specs.Frames.{numberText, numbersText, fieldsText, endText, valuesText, readText, replyText, downText, codeWord, whoseText, codeText}
+use Rattle.commands.specs.Frames.{numberText, numbersText, fieldsText, endText, valuesText, readText, interrogationText, replyText, upText, downText, codeWord, whoseText, codeText}
 use Rattle.commands.specs.Feet.{feetText}
 use Rattle.commands.specs.Help.{wordsHelp, helpText}
 use Rattle.commands.specs.Console.{named, comment, commandText, wordsText, lineText}
@@ -128,6 +128,12 @@ four-fits f a b r part hf ha hb =
     answer-fits 0 (numberText f ++ (numberText a ++ (numberText b ++ hexIn 6 r))) (omega arith)
     (simp length-append (omega (arith, number-fits f hf, number-fits a ha, number-fits b hb, hex-length 6 r)))
 
+five-fits : (f a b c r : ℕ) (part : List ℕ) → f < 100000000 → a < 100000000 → b < 100000000 → c < 100000000 → length (readText (frames.done (f ∷ a ∷ b ∷ c ∷ r ∷ [])) part) ≤ room
+unfolding readText valuesText fieldsText
+five-fits f a b c r part hf ha hb hc =
+    answer-fits 0 (numberText f ++ (numberText a ++ (numberText b ++ (numberText c ++ hexIn 6 r)))) (omega arith)
+    (simp length-append (omega (arith, number-fits f hf, number-fits a ha, number-fits b hb, number-fits c hc, hex-length 6 r)))
+
 refused-fits : (n : ℕ) (part : List ℕ) → n ≤ 14 → length (readText (frames.refusal n) part) ≤ room
 unfolding readText valuesText fieldsText
 refused-fits n part h = answer-fits n [] h (omega arith)
@@ -139,6 +145,13 @@ read-fits true true true x y part h k = h
 read-fits true true false x y part h k = k
 read-fits true false v x y part h k = refused-fits 14 part (omega arith)
 read-fits false u v x y part h k = refused-fits 1 part (omega arith)
+
+interrogation-fits : (msg : List ℕ) → length (interrogationText msg) ≤ room
+unfolding interrogationText readAs allCallRead selectiveRead
+interrogation-fits msg =
+    read-fits (whole (length msg)) (listed (formatOf msg) (length msg)) (eqb (formatOf msg) 11) _ _ (mbPart msg)
+    (five-fits 11 _ _ _ _ (mbPart msg) (omega arith) (omega arith) (omega arith) (omega arith))
+    (seven-fits _ _ _ _ _ _ _ (mbPart msg) (omega arith) (omega arith) (omega arith) (omega arith) (omega arith) (part-fits msg))
 
 reply-fits : (msg : List ℕ) → length (replyText msg) ≤ room
 unfolding replyText readAs allCallReplyRead surveillanceRead
@@ -194,6 +207,10 @@ module _ (ws : List (List ℕ)) where
       with-number-fits (numberIn 10 (word 3 ws)) _ (λ overlay.
       with-number-fits (numberIn 10 (word 4 ws)) _ (λ limit. fixed-fits msg marks overlay limit h)))))
 
+  up-fits : length (upText ws) ≤ room
+  unfolding upText
+  up-fits = of-words-fits 2 ws (withBytes (bytesIn (word 1 ws)) interrogationText) (with-bytes-fits (word 1 ws) interrogationText (λ msg h. interrogation-fits msg))
+
   down-fits : length (downText ws) ≤ room
   unfolding downText
   down-fits = of-words-fits 2 ws (withBytes (bytesIn (word 1 ws)) replyText) (with-bytes-fits (word 1 ws) replyText (λ msg h. reply-fits msg))
@@ -223,10 +240,11 @@ module _ (ws : List (List ℕ)) where
       either-fits (named "remainder" ws) (remainderText ws) _ remainder-fits
       (either-fits (named "overlay" ws) (overlayText ws) _ overlay-fits
       (either-fits (named "correct" ws) (correctText ws) _ correct-fits
+      (either-fits (named "up" ws) (upText ws) _ up-fits
       (either-fits (named "down" ws) (downText ws) _ down-fits
       (either-fits (named "code" ws) (codeText ws) _ code-fits
       (either-fits (named "feet" ws) (feetText ws) _ feet-fits
-      (either-fits (named "help" ws) (helpText ws) unread help-fits unread-fits))))))
+      (either-fits (named "help" ws) (helpText ws) unread help-fits unread-fits)))))))
 
 words-fit : (ws : List (List ℕ)) → length (wordsText ws) ≤ room
 unfolding wordsText

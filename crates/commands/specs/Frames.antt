@@ -1,4 +1,4 @@
--- The lines of frames: `down HEX`, `code HEX CL IC PERMIT`.
+-- The lines of frames: `up HEX`, `down HEX`, `code HEX CL IC PERMIT`.
 use Prim.Native.Nat.{ℕ}
 use mathlib.Core.List.{List, [], _∷_, _++_}
 use lib.Dec.{eqb}
@@ -11,7 +11,7 @@ use Rattle.text.specs.Line.{sameAs}
 use Rattle.text.specs.Number.{numberIn}
 use Rattle.frames.specs.Answers.{Answer, own, matchingII}
 use Rattle.frames.specs.Formats.{longFormat}
-use Rattle.frames.specs.Reading.{readDown, mbPart}
+use Rattle.frames.specs.Reading.{readUp, readDown, mbPart}
 use Rattle.frames.specs.Codes.{codeOf}
 use Rattle.commands.specs.Texts.{word, ofWords, withNumber, withBytes, answerText}
 
@@ -48,6 +48,13 @@ readText a part = answerText (a .number) (valuesText (a .values) part)
 -- a reply
 unfoldable pub replyText : List ℕ → List ℕ
 replyText msg = readText (readDown msg) (mbPart msg)
+
+-- an interrogation, whose MA stands at the same bits as MB
+unfoldable pub interrogationText : List ℕ → List ℕ
+interrogationText msg = readText (readUp msg) (mbPart msg)
+
+unfoldable pub upText : List (List ℕ) → List ℕ
+upText ws = ofWords 2 ws (withBytes (bytesIn (word 1 ws)) interrogationText)
 
 unfoldable pub downText : List (List ℕ) → List ℕ
 downText ws = ofWords 2 ws (withBytes (bytesIn (word 1 ws)) replyText)

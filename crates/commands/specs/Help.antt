@@ -6,7 +6,7 @@ use Rattle.commands.specs.Texts.{ofWords}
 
 -- the words of the console with what follows each, one line each
 abbrev pub wordsHelp : List ℕ
-wordsHelp = plain "remainder HEX\noverlay NUMBER\ncorrect HEX MARKS OVERLAY LIMIT\ndown HEX\ncode HEX CL IC PERMIT\nfeet AC\n"
+wordsHelp = plain "remainder HEX\noverlay NUMBER\ncorrect HEX MARKS OVERLAY LIMIT\nup HEX\ndown HEX\ncode HEX CL IC PERMIT\nfeet AC\n"
 
 unfoldable pub helpText : List (List ℕ) → List ℕ
 helpText ws = ofWords 1 ws wordsHelp

@@ -11,6 +11,7 @@ use crate::correction::put_correct;
 use crate::feet::put_feet;
 use crate::help::put_help;
 use crate::reading::put_down;
+use crate::reading::put_up;
 use crate::reckoning::put_overlay;
 use crate::reckoning::put_remainder;
 use text::Lined;
@@ -28,6 +29,9 @@ fn put_command(line: &[u8], name: &[u8], out: &mut [u8]) -> usize
     }
     if text::same(name, b"correct") {
         return put_correct(line, out);
+    }
+    if text::same(name, b"up") {
+        return put_up(line, out);
     }
     if text::same(name, b"down") {
         return put_down(line, out);

@@ -14,6 +14,6 @@ pub(crate) fn put_help(line: &[u8], out: &mut [u8]) -> usize
     text::put_bytes(
         out,
         0,
-        b"remainder HEX\noverlay NUMBER\ncorrect HEX MARKS OVERLAY LIMIT\ndown HEX\ncode HEX CL IC PERMIT\nfeet AC\n",
+        b"remainder HEX\noverlay NUMBER\ncorrect HEX MARKS OVERLAY LIMIT\nup HEX\ndown HEX\ncode HEX CL IC PERMIT\nfeet AC\n",
     )
 }

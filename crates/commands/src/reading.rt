@@ -1,15 +1,16 @@
-// The line `down HEX`.
+// The lines `up HEX` and `down HEX`.
 ghost use mathlib.Core.List.{_∷_, []};
 ghost use Rattle.text.specs.Put.{Put};
 ghost use Rattle.text.specs.Line.{wordsOf};
 ghost use Rattle.commands.specs.Texts.{doneText};
-ghost use Rattle.commands.specs.Frames.{fieldsText, replyText, downText};
+ghost use Rattle.commands.specs.Frames.{fieldsText, interrogationText, replyText, upText, downText};
 use crate::answers::put_refusal;
 use crate::answers::put_unread;
 use crate::fields::put_number;
 use crate::fields::put_seven;
 use crate::words::bytes_at;
 use frames::Down;
+use frames::Up;
 use text::Hex;
 
 // The values of DF 11.
@@ -66,6 +67,66 @@ pub(crate) fn put_down(line: &[u8], out: &mut [u8]) -> usize
     let mut msg = [0u8; 32];
     match bytes_at(line, 1, &mut msg) {
         Hex::Bytes(n) => put_reply(out, &msg[..n]),
+        Hex::Not => put_unread(out),
+    }
+}
+
+// The values of UF 11.
+fn put_all_call(out: &mut [u8], pr: u32, ic: u32, cl: u32, remainder: u32) -> usize
+    ensures { λ r. ⌜ Put (doneText (fieldsText (11 ∷ pr ∷ ic ∷ cl ∷ remainder ∷ []))) 0 (now (out .entry)) (now (out .exit)) r ⌝ }
+{
+    let at_pr = text::put_bytes(out, 0, b"0 11 ");
+    let at_ic = put_number(out, at_pr, pr);
+    let at_cl = put_number(out, at_ic, ic);
+    let at_end = put_number(out, at_cl, cl);
+    let end = text::put_hex6(out, at_end, remainder);
+    text::put_byte(out, end, 10)
+}
+
+// An interrogation's values, or the refusal.
+fn put_interrogation(out: &mut [u8], msg: &[u8]) -> usize
+    ensures { λ r. ⌜ Put (interrogationText (now (msg .entry))) 0 (now (out .entry)) (now (out .exit)) r ⌝ }
+{
+    match frames::read_up(msg) {
+        Up::Selective {
+            uf,
+            pc,
+            rr,
+            di,
+            sd,
+            ma: _,
+            remainder,
+        } => put_seven(
+            out,
+            uf as u32,
+            pc as u32,
+            rr as u32,
+            di as u32,
+            sd as u32,
+            frames::mb_part(msg),
+            remainder,
+        ),
+        Up::AllCall {
+            pr,
+            ic,
+            cl,
+            remainder,
+        } => put_all_call(out, pr as u32, ic as u32, cl as u32, remainder),
+        Up::Length => put_refusal(out, 1),
+        Up::Format => put_refusal(out, 14),
+    }
+}
+
+// An interrogation read alone.
+pub(crate) fn put_up(line: &[u8], out: &mut [u8]) -> usize
+    ensures { λ r. ⌜ Put (upText (wordsOf (now (line .entry)))) 0 (now (out .entry)) (now (out .exit)) r ⌝ }
+{
+    if text::word_count(line) != 2 {
+        return put_unread(out);
+    }
+    let mut msg = [0u8; 32];
+    match bytes_at(line, 1, &mut msg) {
+        Hex::Bytes(n) => put_interrogation(out, &msg[..n]),
         Hex::Not => put_unread(out),
     }
 }

@@ -31,6 +31,9 @@ start-6 c = start-5 (c .before .before .before)
 abbrev start-7 : tie.Else7 → tie.Start
 start-7 c = start-6 (c .before .before .before)
 
+abbrev start-8 : tie.Else8 → tie.Start
+start-8 c = start-7 (c .before .before .before)
+
 -- the names that the word is not
 no-1 : (c : tie.Else1) → named "remainder" (wordsOf (start-1 c .args .line .now)) ≡ false
 no-1 c = compared (plain "remainder") (start-1 c .pre) (c .before .same .ensures) (c .if1 .left)
@@ -41,17 +44,20 @@ no-2 c = compared (plain "overlay") (start-2 c .pre) (c .before .same2 .ensures)
 no-3 : (c : tie.Else3) → named "correct" (wordsOf (start-3 c .args .line .now)) ≡ false
 no-3 c = compared (plain "correct") (start-3 c .pre) (c .before .same3 .ensures) (c .if3 .left)
 
-no-4 : (c : tie.Else4) → named "down" (wordsOf (start-4 c .args .line .now)) ≡ false
-no-4 c = compared (plain "down") (start-4 c .pre) (c .before .same4 .ensures) (c .if4 .left)
+no-4 : (c : tie.Else4) → named "up" (wordsOf (start-4 c .args .line .now)) ≡ false
+no-4 c = compared (plain "up") (start-4 c .pre) (c .before .same4 .ensures) (c .if4 .left)
 
-no-5 : (c : tie.Else5) → named "code" (wordsOf (start-5 c .args .line .now)) ≡ false
-no-5 c = compared (plain "code") (start-5 c .pre) (c .before .same5 .ensures) (c .if5 .left)
+no-5 : (c : tie.Else5) → named "down" (wordsOf (start-5 c .args .line .now)) ≡ false
+no-5 c = compared (plain "down") (start-5 c .pre) (c .before .same5 .ensures) (c .if5 .left)
 
-no-6 : (c : tie.Else6) → named "feet" (wordsOf (start-6 c .args .line .now)) ≡ false
-no-6 c = compared (plain "feet") (start-6 c .pre) (c .before .same6 .ensures) (c .if6 .left)
+no-6 : (c : tie.Else6) → named "code" (wordsOf (start-6 c .args .line .now)) ≡ false
+no-6 c = compared (plain "code") (start-6 c .pre) (c .before .same6 .ensures) (c .if6 .left)
 
-no-7 : (c : tie.Else7) → named "help" (wordsOf (start-7 c .args .line .now)) ≡ false
-no-7 c = compared (plain "help") (start-7 c .pre) (c .before .same7 .ensures) (c .if7 .left)
+no-7 : (c : tie.Else7) → named "feet" (wordsOf (start-7 c .args .line .now)) ≡ false
+no-7 c = compared (plain "feet") (start-7 c .pre) (c .before .same7 .ensures) (c .if7 .left)
+
+no-8 : (c : tie.Else8) → named "help" (wordsOf (start-8 c .args .line .now)) ≡ false
+no-8 c = compared (plain "help") (start-8 c .pre) (c .before .same8 .ensures) (c .if8 .left)
 
 slice-aggregate-same : tie.Need-slice-aggregate-same
 slice-aggregate-same c = search needs
@@ -112,8 +118,8 @@ slice-aggregate-same-4 c = search needs
 same-requires-4 : tie.Need-same-requires-4
 same-requires-4 c κs = search needs
 
-put-down-requires : tie.Need-put-down-requires
-put-down-requires c κs = search needs
+put-up-requires : tie.Need-put-up-requires
+put-up-requires c κs = search needs
 
 same-length-4 : tie.Need-same-length-4
 same-length-4 c = search needs
@@ -124,7 +130,7 @@ returns-4 c =
     let e3 = c .before .before .before .before .before .before .before in
     let e2 = e3 .before .before .before in
     let e1 = e2 .before .before .before in
-    rw (no-1 e1, no-2 e2, no-3 e3, compared (plain "down") (e1 .before .before .before .before .before .before .pre) (c .before .before .before .before .before .same4 .ensures) (c .before .before .before .before .if4 .taken)) (c .before .before .put-down .ensures)
+    rw (no-1 e1, no-2 e2, no-3 e3, compared (plain "up") (e1 .before .before .before .before .before .before .pre) (c .before .before .before .before .before .same4 .ensures) (c .before .before .before .before .if4 .taken)) (c .before .before .put-up .ensures)
 
 slice-aggregate-same-5 : tie.Need-slice-aggregate-same-5
 slice-aggregate-same-5 c = search needs
@@ -132,8 +138,8 @@ slice-aggregate-same-5 c = search needs
 same-requires-5 : tie.Need-same-requires-5
 same-requires-5 c κs = search needs
 
-put-code-requires : tie.Need-put-code-requires
-put-code-requires c κs = search needs
+put-down-requires : tie.Need-put-down-requires
+put-down-requires c κs = search needs
 
 same-length-5 : tie.Need-same-length-5
 same-length-5 c = search needs
@@ -145,7 +151,7 @@ returns-5 c =
     let e3 = e4 .before .before .before in
     let e2 = e3 .before .before .before in
     let e1 = e2 .before .before .before in
-    rw (no-1 e1, no-2 e2, no-3 e3, no-4 e4, compared (plain "code") (e1 .before .before .before .before .before .before .pre) (c .before .before .before .before .before .same5 .ensures) (c .before .before .before .before .if5 .taken)) (c .before .before .put-code .ensures)
+    rw (no-1 e1, no-2 e2, no-3 e3, no-4 e4, compared (plain "down") (e1 .before .before .before .before .before .before .pre) (c .before .before .before .before .before .same5 .ensures) (c .before .before .before .before .if5 .taken)) (c .before .before .put-down .ensures)
 
 slice-aggregate-same-6 : tie.Need-slice-aggregate-same-6
 slice-aggregate-same-6 c = search needs
@@ -153,8 +159,8 @@ slice-aggregate-same-6 c = search needs
 same-requires-6 : tie.Need-same-requires-6
 same-requires-6 c κs = search needs
 
-put-feet-requires : tie.Need-put-feet-requires
-put-feet-requires c κs = search needs
+put-code-requires : tie.Need-put-code-requires
+put-code-requires c κs = search needs
 
 same-length-6 : tie.Need-same-length-6
 same-length-6 c = search needs
@@ -167,7 +173,7 @@ returns-6 c =
     let e3 = e4 .before .before .before in
     let e2 = e3 .before .before .before in
     let e1 = e2 .before .before .before in
-    rw (no-1 e1, no-2 e2, no-3 e3, no-4 e4, no-5 e5, compared (plain "feet") (e1 .before .before .before .before .before .before .pre) (c .before .before .before .before .before .same6 .ensures) (c .before .before .before .before .if6 .taken)) (c .before .before .put-feet .ensures)
+    rw (no-1 e1, no-2 e2, no-3 e3, no-4 e4, no-5 e5, compared (plain "code") (e1 .before .before .before .before .before .before .pre) (c .before .before .before .before .before .same6 .ensures) (c .before .before .before .before .if6 .taken)) (c .before .before .put-code .ensures)
 
 slice-aggregate-same-7 : tie.Need-slice-aggregate-same-7
 slice-aggregate-same-7 c = search needs
@@ -175,8 +181,8 @@ slice-aggregate-same-7 c = search needs
 same-requires-7 : tie.Need-same-requires-7
 same-requires-7 c κs = search needs
 
-put-help-requires : tie.Need-put-help-requires
-put-help-requires c κs = search needs
+put-feet-requires : tie.Need-put-feet-requires
+put-feet-requires c κs = search needs
 
 same-length-7 : tie.Need-same-length-7
 same-length-7 c = search needs
@@ -190,10 +196,16 @@ returns-7 c =
     let e3 = e4 .before .before .before in
     let e2 = e3 .before .before .before in
     let e1 = e2 .before .before .before in
-    rw (no-1 e1, no-2 e2, no-3 e3, no-4 e4, no-5 e5, no-6 e6, compared (plain "help") (e1 .before .before .before .before .before .before .pre) (c .before .before .before .before .before .same7 .ensures) (c .before .before .before .before .if7 .taken)) (c .before .before .put-help .ensures)
+    rw (no-1 e1, no-2 e2, no-3 e3, no-4 e4, no-5 e5, no-6 e6, compared (plain "feet") (e1 .before .before .before .before .before .before .pre) (c .before .before .before .before .before .same7 .ensures) (c .before .before .before .before .if7 .taken)) (c .before .before .put-feet .ensures)
 
-put-unread-requires : tie.Need-put-unread-requires
-put-unread-requires c κs = search needs
+slice-aggregate-same-8 : tie.Need-slice-aggregate-same-8
+slice-aggregate-same-8 c = search needs
+
+same-requires-8 : tie.Need-same-requires-8
+same-requires-8 c κs = search needs
+
+put-help-requires : tie.Need-put-help-requires
+put-help-requires c κs = search needs
 
 same-length-8 : tie.Need-same-length-8
 same-length-8 c = search needs
@@ -201,14 +213,33 @@ same-length-8 c = search needs
 returns-8 : tie.Need-returns-8
 unfolding commandText
 returns-8 c =
-    let e7 = c .before .before .before .before in
+    let e7 = c .before .before .before .before .before .before .before in
     let e6 = e7 .before .before .before in
     let e5 = e6 .before .before .before in
     let e4 = e5 .before .before .before in
     let e3 = e4 .before .before .before in
     let e2 = e3 .before .before .before in
     let e1 = e2 .before .before .before in
-    rw (no-1 e1, no-2 e2, no-3 e3, no-4 e4, no-5 e5, no-6 e6, no-7 e7) (c .before .before .put-unread .ensures)
+    rw (no-1 e1, no-2 e2, no-3 e3, no-4 e4, no-5 e5, no-6 e6, no-7 e7, compared (plain "help") (e1 .before .before .before .before .before .before .pre) (c .before .before .before .before .before .same8 .ensures) (c .before .before .before .before .if8 .taken)) (c .before .before .put-help .ensures)
+
+put-unread-requires : tie.Need-put-unread-requires
+put-unread-requires c κs = search needs
+
+same-length-9 : tie.Need-same-length-9
+same-length-9 c = search needs
+
+returns-9 : tie.Need-returns-9
+unfolding commandText
+returns-9 c =
+    let e8 = c .before .before .before .before in
+    let e7 = e8 .before .before .before in
+    let e6 = e7 .before .before .before in
+    let e5 = e6 .before .before .before in
+    let e4 = e5 .before .before .before in
+    let e3 = e4 .before .before .before in
+    let e2 = e3 .before .before .before in
+    let e1 = e2 .before .before .before in
+    rw (no-1 e1, no-2 e2, no-3 e3, no-4 e4, no-5 e5, no-6 e6, no-7 e7, no-8 e8) (c .before .before .put-unread .ensures)
 
 pub put-command-spec : {M : Type 1} → statement M
 put-command-spec =
@@ -231,24 +262,29 @@ put-command-spec =
     returns-3
     slice-aggregate-same-4
     same-requires-4
-    put-down-requires
+    put-up-requires
     same-length-4
     returns-4
     slice-aggregate-same-5
     same-requires-5
-    put-code-requires
+    put-down-requires
     same-length-5
     returns-5
     slice-aggregate-same-6
     same-requires-6
-    put-feet-requires
+    put-code-requires
     same-length-6
     returns-6
     slice-aggregate-same-7
     same-requires-7
-    put-help-requires
+    put-feet-requires
     same-length-7
     returns-7
-    put-unread-requires
+    slice-aggregate-same-8
+    same-requires-8
+    put-help-requires
     same-length-8
-    returns-8)
+    returns-8
+    put-unread-requires
+    same-length-9
+    returns-9)
