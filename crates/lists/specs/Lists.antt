@@ -31,6 +31,13 @@ countOf p (x ∷ xs) =
     let n = countOf p xs in
     pick (p x) (suc n) n
 
+-- the place of the first element that p holds of, or the length where there is none
+unfoldable pub indexOf : {A : Type 0} → (A → Bool) → List A → ℕ
+indexOf p [] = 0
+indexOf p (x ∷ xs) =
+    let n = indexOf p xs in
+    pick (p x) 0 (suc n)
+
 -- the elements that p holds of, in their order
 unfoldable pub filter : {A : Type 0} → (A → Bool) → List A → List A
 filter p [] = []
