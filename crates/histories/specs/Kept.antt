@@ -1,0 +1,30 @@
+-- What every history of calls keeps true of the station.
+use Prim.Native.Nat.{ℕ, _≤_, _<_}
+use mathlib.Core.Path.{_≡_}
+use mathlib.Core.Bool.{true}
+use Rattle.lists.specs.Lists.{All, countOf}
+use Rattle.planner.specs.declared.request.Request.{Request}
+use Rattle.planner.specs.declared.entry.Entry.{Entry}
+use Rattle.planner.specs.Shares.{judged}
+use Rattle.station.specs.declared.state.Target.{Target}
+use Rattle.station.specs.declared.state.Targets.{Targets}
+use Rattle.station.specs.declared.state.Station.{Station}
+use Rattle.station.specs.State.{targetsOf, requestsOf, entriesOf, inList, isOf}
+use Rattle.station.specs.Calls.{requestRanged}
+
+-- "near ≤ far ≤ R"
+abbrev pub InReach : ℕ → Target → Type 0
+InReach R t = (t .near ≤ t .far) × (t .far ≤ R)
+
+-- a request that waits has its numbers in their ranges, and its target is held
+abbrev pub Waits : Targets → Request → Type 0
+Waits t q = (requestRanged q ≡ true) × (inList (q .address) t ≡ true)
+
+-- the setup was accepted, as that before any setup would be; every target is in reach; every waiting request has its target; no unit has more than 16
+-- waiting; and every entry is of a request that was taken
+pub record Kept (s : Station) : Type 0 where
+  pub shares : judged (s .setup) ≡ 0
+  pub reach : All (InReach (s .setup .reach)) (targetsOf (s .targets))
+  pub waiting : All (Waits (s .targets)) (requestsOf (s .waiting))
+  pub sixteen : (u : ℕ) → countOf (isOf u) (requestsOf (s .waiting)) ≤ 16
+  pub entries : All (λ (e : Entry). requestRanged (e .ask .request) ≡ true) (entriesOf (s .plan))

@@ -1,0 +1,92 @@
+-- Numbers given back: document 01's table, as the checks of each call in their order.
+use Prim.Native.Nat.{ℕ}
+use mathlib.Core.List.{List, [], _∷_}
+use mathlib.Core.Bool.{Bool, not, _&&_}
+use lib.ListN.{length, getD}
+use lib.Dec.{eqb, leb, ltb}
+use Rattle.lists.specs.Lists.{pick, countOf, every}
+use Rattle.parity.specs.Messages.{bits}
+use Rattle.parity.specs.Correction.{weight, matching, want, flipped, sized}
+use Rattle.frames.specs.Formats.{lengthOf}
+use Rattle.frames.specs.Building.{anAddress}
+use Rattle.frames.specs.Reading.{formatOf}
+use Rattle.planner.specs.declared.shares.Setup.{Setup}
+use Rattle.planner.specs.declared.request.Request.{Request}
+use Rattle.planner.specs.Shares.{inRange, ordered, sharesFit}
+use Rattle.station.specs.declared.state.Station.{Station}
+use Rattle.station.specs.State.{inList, targetsOf, requestsOf, isOf, entriesOf}
+use Rattle.station.specs.Calls.{targetRanged, requestRanged}
+use Rattle.station.specs.Replies.{entryNumbered, isOpen, expected, startOf, inWindow}
+use Rattle.histories.specs.History.{Call, setup, new, remove, move, request, plan, reply, report}
+
+-- a line of the table, for one call: the number, and whether it is the case
+pub record Check : Type 0 where
+  pub number : ℕ
+  pub isCase : Bool
+
+abbrev pub check : ℕ → Bool → Check
+check n b = record { number = n; isCase = b }
+
+-- "checks run in the order of these numbers": the first that is the case gives its number, and 0 means done
+unfoldable pub given : List Check → ℕ
+given [] = 0
+given (c ∷ cs) = pick (c .isCase) (c .number) (given cs)
+
+-- ---- the lines of the table
+-- 2, of a setup: "correction limit 0 to 12 .. reach R 0 to 13,000; guarantee and ceiling 0 to 16"; a period has 16 bits
+abbrev pub setupRanged : Setup → Bool
+setupRanged h = leb (h .reach) 13000 && leb (h .limit) 12 && every (inRange (h .guarantee)) 8 && every (inRange (h .ceiling)) 8
+
+-- 3: "a guarantee above its ceiling, or shares that do not fit"
+abbrev pub sharesGood : Setup → Bool
+sharesGood h = every (ordered (h .guarantee) (h .ceiling)) 8 && sharesFit h
+
+-- 6: "64 targets held; 16 requests of this unit waiting"
+abbrev pub targetsHeld : Station → ℕ
+targetsHeld s = length (targetsOf (s .targets))
+
+abbrev pub ofUnitWaiting : ℕ → Station → ℕ
+ofUnitWaiting u s = countOf (isOf u) (requestsOf (s .waiting))
+
+-- 12 and 13: the subsets of a reply's marked bits that match, over the address of its entry
+abbrev pub matchesOf : Request → List ℕ → List ℕ → List (List ℕ)
+matchesOf q msg marks = matching (want msg (q .address)) (bits marks)
+
+-- 14: the message with the one subset flipped
+abbrev pub correctedBy : List ℕ → List (List ℕ) → List ℕ
+correctedBy msg ss = flipped msg (getD ss 0 [])
+
+-- the request of an entry
+abbrev pub requestAt : ℕ → Station → Request
+requestAt k s = entryNumbered k s .ask .request
+
+-- a reply's lines, from 9 on for the request of its entry
+unfoldable pub replyChecks : Station → Request → ℕ → ℕ → List ℕ → List ℕ → List ℕ → List Check
+replyChecks s q k tag msg marks out =
+    check 1 (not (sized (length msg) (length marks) (length out)))
+    ∷ check 7 (not (ltb k (length (entriesOf (s .plan)))))
+    ∷ check 8 (not (isOpen (entryNumbered k s .mark)))
+    ∷ check 9 (not (eqb (length msg) (lengthOf (expected q))))
+    ∷ check 10 (not (inWindow (entryNumbered k s) (startOf tag (s .plan .tag))))
+    ∷ check 11 (not (leb (weight (bits marks)) (s .setup .limit)))
+    ∷ check 12 (eqb (length (matchesOf q msg marks)) 0)
+    ∷ check 13 (leb 2 (length (matchesOf q msg marks)))
+    ∷ check 14 (not (eqb (formatOf (correctedBy msg (matchesOf q msg marks))) (expected q)))
+    ∷ []
+
+-- the lines that a call can meet, in their order
+abbrev pub checks : Station → Call → List Check
+checks s (setup h) = check 2 (not (setupRanged h)) ∷ check 3 (not (sharesGood h)) ∷ []
+checks s (new a near far) =
+    check 2 (not (targetRanged a near far (s .setup .reach))) ∷ check 5 (inList a (s .targets)) ∷ check 6 (leb 64 (targetsHeld s)) ∷ []
+checks s (remove a) = check 2 (not (anAddress a)) ∷ check 4 (not (inList a (s .targets))) ∷ []
+checks s (move a near far) =
+    check 2 (not (targetRanged a near far (s .setup .reach))) ∷ check 4 (not (inList a (s .targets))) ∷ []
+checks s (request q) =
+    check 2 (not (requestRanged q))
+    ∷ check 4 (not (inList (q .address) (s .targets)))
+    ∷ check 6 (leb 16 (ofUnitWaiting (q .unit) s))
+    ∷ []
+checks s (plan tag) = []
+checks s (reply k tag msg marks out) = replyChecks s (requestAt k s) k tag msg marks out
+checks s (report a) = check 2 (not (anAddress a)) ∷ check 4 (not (inList a (s .targets))) ∷ []
