@@ -7,6 +7,8 @@ pub mod Front
 pub mod Count
 pub mod Over
 pub mod Held
+pub mod Each
+pub mod Keys
 pub mod Filter
 pub mod Copied
 pub mod Signed

@@ -1,0 +1,138 @@
+-- What a call can come to: it is refused and leaves all as it was, or it is done, and then its tests are known.
+use borrow.Author.Tests.{not-true, not-false, eqb-true, eqb-false}
+use Prim.Native.Nat.{ℕ}
+use mathlib.Core.Path.{_≡_, refl, ap, _∙_}
+use mathlib.Core.List.{List}
+use mathlib.Core.Bool.{Bool, true, false, not}
+use lib.ListN.{length}
+use lib.IntN.{ℤ}
+use lib.Dec.{eqb, ltb}
+use Rattle.lists.specs.Lists.{pick}
+use Rattle.parity.specs.Answers.{Outcome}
+use Rattle.parity.specs.Correction.{sized}
+use Rattle.frames.specs.Formats.{lengthOf}
+use Rattle.frames.specs.Building.{anAddress}
+use Rattle.planner.specs.declared.request.Request.{Request}
+use Rattle.planner.specs.declared.shares.Setup.{Setup}
+use Rattle.planner.specs.Shares.{judged}
+use Rattle.station.specs.declared.state.Value.the-variants.{Never}
+use Rattle.station.specs.declared.state.Station.{Station}
+use Rattle.station.specs.declared.state.Answer.{Answer}
+use Rattle.station.specs.declared.state.Report.{Report}
+use Rattle.station.specs.State.{inList, fresh, targetAt, targetsWith, targetsPut, waitingWith, entriesOf, withTargets, withWaiting, emptied}
+use Rattle.station.specs.Calls.{refused, done, setUp, targetRanged, requestRanged, targetsFull, unitFull, newTarget, without, removed, edged, moved, requested, refusedReport, reported}
+use Rattle.station.specs.Planning.{nextPlan}
+use Rattle.station.specs.Replies.{expected, entryNumbered, isOpen, startOf, inWindow, heard, Replied, refusedReply, settled, corrected, replied}
+use Rattle.histories.specs.History.{Call, setup, new, remove, move, request, plan, reply, report, answer}
+
+pub data Came (s : Station) : Call → Answer → Type 0 where
+  refusal : {c : Call} {r : Answer} (n : ℕ) → (n ≡ 0 → ⊥) → r ≡ refused n s → Came s c r
+  did-setup : {r : Answer} (h : Setup) → judged h ≡ 0 → r ≡ done (emptied h) → Came s (setup h) r
+  did-new : {r : Answer} (a near far : ℕ) → targetRanged a near far (s .setup .reach) ≡ true → inList a (s .targets) ≡ false → r ≡ done (withTargets (targetsWith (fresh a near far) (s .targets)) s) → Came s (new a near far) r
+  did-remove : {r : Answer} (a : ℕ) → r ≡ done (without a s) → Came s (remove a) r
+  did-move : {r : Answer} (a near far : ℕ) → targetRanged a near far (s .setup .reach) ≡ true → inList a (s .targets) ≡ true → r ≡ done (withTargets (targetsPut a (edged near far (targetAt a (s .targets))) (s .targets)) s) → Came s (move a near far) r
+  did-request : {r : Answer} (q : Request) → requestRanged q ≡ true → inList (q .address) (s .targets) ≡ true → unitFull (q .unit) (s .waiting) ≡ false → r ≡ done (withWaiting (waitingWith q (s .waiting)) s) → Came s (request q) r
+  did-plan : {r : Answer} (tag : ℕ) → r ≡ done (nextPlan s tag) → Came s (plan tag) r
+  did-reply : {r : Answer} (k tag : ℕ) (msg marks out m : List ℕ) → replied s k tag msg marks out .output ≡ m → r ≡ done (heard k m s) → Came s (reply k tag msg marks out) r
+  did-report : {r : Answer} (a : ℕ) → r ≡ done s → Came s (report a) r
+
+-- a check that is the case gives its number, and else the next is made
+module _ (s : Station) (c : Call) where
+  test : (b : Bool) (n : ℕ) (y : Answer) → (b ≡ true → n ≡ 0 → ⊥) → (b ≡ false → Came s c y) → Came s c (pick b (refused n s) y)
+  test true n y z g = refusal n (z refl) refl
+  test false n y z g = g refl
+
+-- a number of the table is not 0
+numbered : (n : ℕ) → {b : Bool} → eqb n 0 ≡ false → b ≡ true → n ≡ 0 → ⊥
+numbered n e _ q = eqb-false n 0 e q
+
+-- ---- a reply, with all that it is answered
+pub data CameReply (s : Station) (k : ℕ) (out : List ℕ) : Replied → Type 0 where
+  refusal-reply : {r : Replied} (n : ℕ) → (n ≡ 0 → ⊥) → r ≡ refusedReply n out s → CameReply s k out r
+  took : {r : Replied} (flips : ℕ) (delay : ℤ) (m : List ℕ) → r ≡ record { number = 0; flips = flips; delay = delay; output = m; station = heard k m s } → CameReply s k out r
+
+module _ (s : Station) (k : ℕ) (out : List ℕ) where
+  test-reply : (b : Bool) (n : ℕ) (y : Replied) → (b ≡ true → n ≡ 0 → ⊥) → (b ≡ false → CameReply s k out y) → CameReply s k out (pick b (refusedReply n out s) y)
+  test-reply true n y z g = refusal-reply n (z refl) refl
+  test-reply false n y z g = g refl
+
+  came-settled : (start : ℕ) (o : Outcome) → CameReply s k out (settled k start out o s)
+  unfolding settled
+  came-settled start o =
+      test-reply (not (eqb (o .number) 0)) (o .number) _ (λ t. eqb-false (o .number) 0 (not-true (eqb (o .number) 0) t)) (λ _. took (o .flips) _ (o .output) refl)
+
+  pub came-reply : (tag : ℕ) (msg marks : List ℕ) → CameReply s k out (replied s k tag msg marks out)
+  unfolding replied
+  came-reply tag msg marks =
+      test-reply (not (sized (length msg) (length marks) (length out))) 1 _ (numbered 1 refl)
+      (λ _. test-reply (not (ltb k (length (entriesOf (s .plan))))) 7 _ (numbered 7 refl)
+      (λ _. test-reply (not (isOpen (entryNumbered k s .mark))) 8 _ (numbered 8 refl)
+      (λ _. test-reply (not (eqb (length msg) (lengthOf (expected (entryNumbered k s .ask .request))))) 9 _ (numbered 9 refl)
+      (λ _. test-reply (not (inWindow (entryNumbered k s) (startOf tag (s .plan .tag)))) 10 _ (numbered 10 refl)
+      (λ _. came-settled (startOf tag (s .plan .tag)) (corrected k msg marks out s))))))
+
+-- what a reply's answer says of the station
+abbrev cut : Replied → Answer
+cut x = record { number = x .number; station = x .station }
+
+-- ---- every call
+pub came : (s : Station) (c : Call) → Came s c (answer s c)
+unfolding setUp newTarget removed moved requested reported
+came s (setup h) =
+    test s (setup h) (not (eqb (judged h) 0)) (judged h) (done (emptied h)) (λ t. eqb-false (judged h) 0 (not-true (eqb (judged h) 0) t))
+    (λ f. did-setup h (eqb-true (judged h) 0 (not-false (eqb (judged h) 0) f)) refl)
+came s (new a near far) =
+    test s (new a near far) (not (targetRanged a near far (s .setup .reach))) 2 _ (numbered 2 refl)
+    (λ g. test s (new a near far) (inList a (s .targets)) 5 _ (numbered 5 refl)
+    (λ f. test s (new a near far) (targetsFull (s .targets)) 6 _ (numbered 6 refl)
+    (λ _. did-new a near far (not-false (targetRanged a near far (s .setup .reach)) g) f refl)))
+came s (remove a) =
+    test s (remove a) (not (anAddress a)) 2 _ (numbered 2 refl)
+    (λ _. test s (remove a) (not (inList a (s .targets))) 4 _ (numbered 4 refl)
+    (λ _. did-remove a refl))
+came s (move a near far) =
+    test s (move a near far) (not (targetRanged a near far (s .setup .reach))) 2 _ (numbered 2 refl)
+    (λ g. test s (move a near far) (not (inList a (s .targets))) 4 _ (numbered 4 refl)
+    (λ h. did-move a near far (not-false (targetRanged a near far (s .setup .reach)) g) (not-false (inList a (s .targets)) h) refl))
+came s (request q) =
+    test s (request q) (not (requestRanged q)) 2 _ (numbered 2 refl)
+    (λ g. test s (request q) (not (inList (q .address) (s .targets))) 4 _ (numbered 4 refl)
+    (λ h. test s (request q) (unitFull (q .unit) (s .waiting)) 6 _ (numbered 6 refl)
+    (λ f. did-request q (not-false (requestRanged q) g) (not-false (inList (q .address) (s .targets)) h) f refl)))
+came s (plan tag) = did-plan tag refl
+came s (reply k tag msg marks out) = go (replied s k tag msg marks out) refl (came-reply s k out tag msg marks)
+  where
+    go : (r : Replied) → replied s k tag msg marks out ≡ r → CameReply s k out r → Came s (reply k tag msg marks out) (cut (replied s k tag msg marks out))
+    go r e (refusal-reply n z q) = refusal n z (ap cut (e ∙ q))
+    go r e (took flips delay m q) = did-reply k tag msg marks out m (ap (λ (x : Replied). x .output) (e ∙ q)) (ap cut (e ∙ q))
+came s (report a) = go (not (anAddress a)) (not (inList a (s .targets)))
+  where
+    go : (b d : Bool) → Came s (report a) (record { number = pick {A = Report} b (refusedReport 2) (pick d (refusedReport 4) (record { number = 0; ac = targetAt a (s .targets) .ac; id = targetAt a (s .targets) .id })) .number; station = s })
+    go true d = refusal 2 (numbered 2 {b = true} refl refl) refl
+    go false true = refusal 4 (numbered 4 {b = true} refl refl) refl
+    go false false = did-report a refl
+
+-- ---- a refusal changes nothing, neither the station nor a lent buffer
+pub refusal-changes-nothing : (s : Station) (c : Call) → (answer s c .number ≡ 0 → ⊥) → answer s c .station ≡ s
+refusal-changes-nothing s c n = go c (answer s c) n (came s c)
+  where
+    no-done : {r : Answer} (x : Station) → r ≡ done x → (r .number ≡ 0 → ⊥) → ⊥
+    no-done x e n = n (ap (λ (r : Answer). r .number) e)
+
+    go : (c : Call) (r : Answer) → (r .number ≡ 0 → ⊥) → Came s c r → r .station ≡ s
+    go c r n (refusal k z e) = ap (λ (x : Answer). x .station) e
+    go c r n (did-setup h a e) = absurd (no-done _ e n)
+    go c r n (did-new a near far g f e) = absurd (no-done _ e n)
+    go c r n (did-remove a e) = absurd (no-done _ e n)
+    go c r n (did-move a near far g h e) = absurd (no-done _ e n)
+    go c r n (did-request q g h f e) = absurd (no-done _ e n)
+    go c r n (did-plan tag e) = absurd (no-done _ e n)
+    go c r n (did-reply k tag msg marks out m o e) = absurd (no-done _ e n)
+    go c r n (did-report a e) = absurd (no-done _ e n)
+
+pub refused-reply-writes-nothing : (s : Station) (k tag : ℕ) (msg marks out : List ℕ) → (replied s k tag msg marks out .number ≡ 0 → ⊥) → replied s k tag msg marks out .output ≡ out
+refused-reply-writes-nothing s k tag msg marks out n = go (replied s k tag msg marks out) n (came-reply s k out tag msg marks)
+  where
+    go : (r : Replied) → (r .number ≡ 0 → ⊥) → CameReply s k out r → r .output ≡ out
+    go r n (refusal-reply j z e) = ap (λ (x : Replied). x .output) e
+    go r n (took flips delay m e) = absurd (n (ap (λ (x : Replied). x .number) e))

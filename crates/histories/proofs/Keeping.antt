@@ -1,0 +1,311 @@
+-- What every history of calls keeps true of the station.
+use borrow.Author.Tests.{leb-true, leb-false, lt-leb, eqb-true, eqb-false, not-true}
+use Prim.Native.Nat.{ℕ, zero, suc, _+_, _≤_, _<_}
+use native.Mathlib.Omega.{arith}
+use mathlib.Core.Path.{_≡_, refl, sym, ap, subst, _∙_}
+use mathlib.Core.List.{List, [], _∷_, _++_, map}
+use mathlib.Core.Bool.{Bool, true, false, not, _&&_, _||_, false≢true}
+use lib.ListN.{length, getD, set}
+use lib.Dec.{eqb, leb}
+use Rattle.lists.specs.Lists.{pick, countOf, every, total, filter, All}
+use Rattle.lists.proofs.Tests.{and-left, and-right}
+use Rattle.lists.proofs.Over.{take-over}
+use Rattle.lists.proofs.Count.{count-nil, count-snoc}
+use Rattle.lists.proofs.Held.{all-nil, all-snoc, all-map}
+use Rattle.lists.proofs.Each.{all-set, all-kept, count-kept, none-fail, all-pass, all-image, count-image}
+use Rattle.lists.proofs.Keys.{fewer}
+use Rattle.frames.specs.Formats.{surveillance}
+use Rattle.frames.specs.Building.{anAddress, selectiveRanged}
+use Rattle.planner.specs.declared.request.Request.{Request}
+use Rattle.planner.specs.declared.request.Ask.{Ask}
+use Rattle.planner.specs.declared.entry.Entry.{Entry}
+use Rattle.planner.specs.declared.entry.Mark.the-variants.{Answered}
+use Rattle.planner.specs.declared.shares.Setup.{Setup}
+use Rattle.planner.specs.Demand3.{Proper}
+use Rattle.planner.specs.Shares.{judged, sharesFit}
+use Rattle.planner.proofs.Demand3.{demand3, left-each}
+use Rattle.station.specs.declared.state.Target.{Target}
+use Rattle.station.specs.declared.state.Targets.{Targets}
+use Rattle.station.specs.declared.state.Waiting.{Waiting}
+use Rattle.station.specs.declared.state.Plan.{Plan}
+use Rattle.station.specs.declared.state.Station.{Station}
+use Rattle.station.specs.declared.state.Answer.{Answer}
+use Rattle.station.specs.State.{targetsOf, targetsAs, isAt, placeIn, inList, fresh, targetAt, older, targetsOlder, requestsOf, waitingAs, isOf, entriesOf, planAs, withdrawn, marked, noEntry, emptied, blank}
+use Rattle.station.specs.Calls.{done, targetRanged, requestRanged, unitFull, without, edged}
+use Rattle.station.specs.Planning.{askFor, requestOf, asked, boardFor, planWith, nextPlan}
+use Rattle.station.specs.Replies.{saidIn, saidID, saidAC, holdsID, expected, targetsHeard, entryNumbered, valueIn, planAnswered, heard}
+use Rattle.histories.specs.History.{Call, answer, after}
+use Rattle.histories.specs.Kept.{InReach, Waits, Kept}
+use Rattle.histories.proofs.Lookup.{has, look, has-nil, has-cons, look-cons, has-snoc, has-map, has-other, has-put}
+use Rattle.histories.proofs.Came.{Came, refusal, did-setup, did-new, did-remove, did-move, did-request, did-plan, did-reply, did-report, came}
+
+-- ---- the list laid over the slots of a part is the one that the part holds
+pub targets-are : (v : List Target) (t : Targets) → targetsOf (targetsAs v t) ≡ v
+targets-are v t = take-over v (t .list)
+
+pub requests-are : (v : List Request) (w : Waiting) → requestsOf (waitingAs v w) ≡ v
+requests-are v w = take-over v (w .list)
+
+pub entries-are : (v : List Entry) (p : Plan) → entriesOf (planAs v p) ≡ v
+entries-are v p = take-over v (p .list)
+
+-- ---- what the ranges say
+reach-of : (a near far R : ℕ) → targetRanged a near far R ≡ true → (near ≤ far) × (far ≤ R)
+unfolding targetRanged
+reach-of a near far R g = (
+  leb-true near far (and-right (anAddress a) (leb near far) (and-left (anAddress a && leb near far) (leb far R) g)),
+  leb-true far R (and-right (anAddress a && leb near far) (leb far R) g),
+)
+
+pub unit-of : (q : Request) → requestRanged q ≡ true → q .unit < 8
+unfolding requestRanged
+unit-of q e =
+    let h =
+    leb-true (q .unit) 7
+    (and-left (leb (q .unit) 7) (surveillance (q .uf))
+    (and-left (leb (q .unit) 7 && surveillance (q .uf)) (selectiveRanged (q .uf) (q .pc) (q .rr) (q .di) (q .sd) (q .ma) (q .address))
+    (and-left _ (leb (q .ma) 0xFFFFFFFFFFFFFF) e))) in
+    omega arith
+
+-- ---- the target of an address
+pub address-of : (a : ℕ) (ts : List Target) → has a ts ≡ true → look a ts .address ≡ a
+address-of a [] e = absurd (false≢true (sym (has-nil a) ∙ e))
+address-of a (x ∷ ts) e = ap (λ (t : Target). t .address) (look-cons a x ts) ∙ go (isAt a x) refl (sym (has-cons a x ts) ∙ e) (λ q. address-of a ts q)
+  where
+    go : (b : Bool) → isAt a x ≡ b → pick b true (has a ts) ≡ true → (has a ts ≡ true → look a ts .address ≡ a) → pick b x (look a ts) .address ≡ a
+    go true e q ih = eqb-true (x .address) a e
+    go false e q ih = ih q
+
+all-look : (P : Target → Type 0) (a : ℕ) (ts : List Target) → All P ts → has a ts ≡ true → P (look a ts)
+unfolding All
+all-look P a [] h e = absurd (false≢true (sym (has-nil a) ∙ e))
+all-look P a (x ∷ ts) h e = subst P (sym (look-cons a x ts)) (go (isAt a x) (sym (has-cons a x ts) ∙ e) (λ q. all-look P a ts (h .1) q))
+  where
+    go : (b : Bool) → pick b true (has a ts) ≡ true → (has a ts ≡ true → P (look a ts)) → P (pick b x (look a ts))
+    go true q ih = h .0
+    go false q ih = ih q
+
+-- ---- the parts under each change
+abbrev Reaching : ℕ → Targets → Type 0
+Reaching R t = All (InReach R) (targetsOf t)
+
+abbrev Waiting-for : Targets → Waiting → Type 0
+Waiting-for t w = All (Waits t) (requestsOf w)
+
+abbrev Sixteen : Waiting → Type 0
+Sixteen w = (u : ℕ) → countOf (isOf u) (requestsOf w) ≤ 16
+
+abbrev Taken : Plan → Type 0
+Taken p = All (λ (e : Entry). requestRanged (e .ask .request) ≡ true) (entriesOf p)
+
+none : (h : Setup) → judged h ≡ 0 → Kept (emptied h)
+unfolding emptied All
+none h a = record { shares = a; reach = tt; waiting = tt; sixteen = λ u. omega (arith, count-nil (isOf u)); entries = tt }
+
+-- another target in the place of one of the same address
+put-keeps : (s : Station) → Kept s → (b : ℕ) (y : Target) → y .address ≡ b → InReach (s .setup .reach) y → (t : Targets) → targetsOf t ≡ set (targetsOf (s .targets)) (placeIn (targetsOf (s .targets)) b) y → Reaching (s .setup .reach) t × Waiting-for t (s .waiting)
+put-keeps s h b y same p t e = (
+  subst (λ (v : List Target). All (InReach (s .setup .reach)) v) (sym e) (all-set (InReach (s .setup .reach)) (targetsOf (s .targets)) (placeIn (targetsOf (s .targets)) b) y p (h .reach)),
+  all-map (Waits (s .targets)) (Waits t) (λ q k. (k .0, ap (has (q .address)) e ∙ has-put (q .address) b y same (targetsOf (s .targets)) ∙ k .1)) (requestsOf (s .waiting)) (h .waiting),
+)
+
+pub said-address : (f v : ℕ) (t : Target) → saidIn f v t .address ≡ t .address
+said-address f v t = go (holdsID f)
+  where
+    go : (b : Bool) → pick b (saidID v t) (saidAC v t) .address ≡ t .address
+    go true = refl
+    go false = refl
+
+said-reach : (R f v : ℕ) (t : Target) → InReach R t → InReach R (saidIn f v t)
+said-reach R f v t h = go (holdsID f)
+  where
+    go : (b : Bool) → InReach R (pick b (saidID v t) (saidAC v t))
+    go true = h
+    go false = h
+
+abbrev pub heardList : Request → ℕ → Targets → List Target
+heardList q v t = set (targetsOf t) (placeIn (targetsOf t) (q .address)) (saidIn (expected q) v (targetAt (q .address) t))
+
+heard-keeps : (s : Station) → Kept s → (q : Request) (v : ℕ) → Reaching (s .setup .reach) (targetsHeard q v (s .targets)) × Waiting-for (targetsHeard q v (s .targets)) (s .waiting)
+unfolding targetsHeard
+heard-keeps s h q v = go (inList (q .address) (s .targets)) refl
+  where
+    go : (b : Bool) → inList (q .address) (s .targets) ≡ b → Reaching (s .setup .reach) (pick b (targetsAs (heardList q v (s .targets)) (s .targets)) (s .targets)) × Waiting-for (pick b (targetsAs (heardList q v (s .targets)) (s .targets)) (s .targets)) (s .waiting)
+    go true e =
+        put-keeps s h (q .address) (saidIn (expected q) v (targetAt (q .address) (s .targets)))
+        (said-address (expected q) v (targetAt (q .address) (s .targets)) ∙ address-of (q .address) (targetsOf (s .targets)) e)
+        (said-reach (s .setup .reach) (expected q) v (targetAt (q .address) (s .targets)) (all-look (InReach (s .setup .reach)) (q .address) (targetsOf (s .targets)) (h .reach) e))
+        (targetsAs (heardList q v (s .targets)) (s .targets)) (targets-are (heardList q v (s .targets)) (s .targets))
+    go false e = (h .reach, h .waiting)
+
+-- ---- planning
+-- every waiting request, with near and far of its target, is what the planner wants
+pub proper : (s : Station) → Kept s → All (Proper (s .setup)) (asked s)
+unfolding asked
+proper s h =
+    all-image (askFor (s .targets)) (Waits (s .targets)) (Proper (s .setup))
+    (λ q k. let r = all-look (InReach (s .setup .reach)) (q .address) (targetsOf (s .targets)) (h .reach) (k .1) in record { unitIn = unit-of q (k .0); nearIn = r .0; farIn = r .1 })
+    (requestsOf (s .waiting)) (h .waiting)
+
+-- what is left waits as before, and each entry is of a request that waited
+abbrev Was : Station → Ask → Type 0
+Was s a = Waits (s .targets) (a .request)
+
+were : (s : Station) → Kept s → All (Was s) (asked s)
+unfolding asked
+were s h = all-image (askFor (s .targets)) (Waits (s .targets)) (Was s) (λ q k. k) (requestsOf (s .waiting)) (h .waiting)
+
+pub plan-shows : (s : Station) (tag : ℕ) → entriesOf (nextPlan s tag .plan) ≡ boardFor s .placed
+unfolding nextPlan
+plan-shows s tag = take-over (boardFor s .placed) (s .plan .list)
+
+pub plan-leaves : (s : Station) (tag : ℕ) → requestsOf (nextPlan s tag .waiting) ≡ map requestOf (boardFor s .waiting)
+unfolding nextPlan
+plan-leaves s tag = take-over (map requestOf (boardFor s .waiting)) (s .waiting .list)
+
+left-waits : (s : Station) (tag : ℕ) → Kept s → Waiting-for (targetsOlder (s .targets)) (nextPlan s tag .waiting)
+unfolding boardFor
+left-waits s tag h =
+    let e = targets-are (map older (targetsOf (s .targets))) (s .targets) in
+    subst (All (Waits (targetsOlder (s .targets)))) (sym (plan-leaves s tag))
+    (all-image requestOf (Was s) (Waits (targetsOlder (s .targets)))
+    (λ a k. (k .0, ap (has (a .request .address)) e ∙ has-map (a .request .address) older (λ t. refl) (targetsOf (s .targets)) ∙ k .1))
+    (boardFor s .waiting)
+    (left-each (s .setup) (h .shares) (asked s) (Was s) (were s h)))
+
+-- a plan leaves no unit with more than it had waiting
+left-fewer : (s : Station) (tag : ℕ) → Kept s → (u : ℕ) → countOf (isOf u) (requestsOf (nextPlan s tag .waiting)) ≤ countOf (isOf u) (requestsOf (s .waiting))
+unfolding boardFor asked
+left-fewer s tag h u =
+    let n = demand3 (s .setup) (h .shares) (asked s) (proper s h) .noneLost (λ (a : Ask). isOf u (a .request)) in
+    let l = ap (countOf (isOf u)) (plan-leaves s tag) ∙ count-image requestOf (isOf u) (boardFor s .waiting) in
+    let r = count-image (askFor (s .targets)) (λ (a : Ask). isOf u (a .request)) (requestsOf (s .waiting)) in
+    omega (arith, n, l, r)
+
+placed-taken : (s : Station) (tag : ℕ) → Kept s → Taken (nextPlan s tag .plan)
+unfolding boardFor
+placed-taken s tag h =
+    let n = demand3 (s .setup) (h .shares) (asked s) (proper s h) .noneLost (λ (a : Ask). not (requestRanged (a .request))) in
+    let w = none-fail (λ (a : Ask). requestRanged (a .request)) (asked s) (all-map (Was s) (λ (a : Ask). requestRanged (a .request) ≡ true) (λ a k. k .0) (asked s) (were s h)) in
+    subst (All (λ (e : Entry). requestRanged (e .ask .request) ≡ true)) (sym (plan-shows s tag))
+    (all-pass (λ (e : Entry). requestRanged (e .ask .request)) (boardFor s .placed) (omega (arith, n, w)))
+
+planned-keeps : (s : Station) (tag : ℕ) → Kept s → Kept (nextPlan s tag)
+unfolding nextPlan
+planned-keeps s tag h =
+    record {
+      shares = h .shares;
+      reach = rw (targets-are (map older (targetsOf (s .targets))) (s .targets)) (all-image older (InReach (s .setup .reach)) (InReach (s .setup .reach)) (λ t k. k) (targetsOf (s .targets)) (h .reach));
+      waiting = left-waits s tag h;
+      sixteen = λ u. omega (arith, left-fewer s tag h u, h .sixteen u);
+      entries = placed-taken s tag h;
+    }
+
+-- ---- a request taken
+some-room : (u : ℕ) (w : Waiting) → unitFull u w ≡ false → countOf (isOf u) (requestsOf w) < 16
+unfolding unitFull
+some-room u w e = leb-false 16 _ (first (leb 16 (countOf (isOf u) (requestsOf w))) (leb 128 (length (requestsOf w))) e)
+  where
+    first : (a b : Bool) → a || b ≡ false → a ≡ false
+    first true b h = h
+    first false b h = refl
+
+few : (b : Bool) (n u v : ℕ) → b ≡ eqb v u → n ≤ 16 → (v ≡ u → n < 16) → n + pick b 1 0 ≤ 16
+few true n u v e h k = let l = k (eqb-true v u (sym e)) in omega arith
+few false n u v e h k = omega arith
+
+asked-keeps : (s : Station) (q : Request) → Kept s → requestRanged q ≡ true → inList (q .address) (s .targets) ≡ true → unitFull (q .unit) (s .waiting) ≡ false → (w : Waiting) → requestsOf w ≡ requestsOf (s .waiting) ++ (q ∷ []) → Waiting-for (s .targets) w × Sixteen w
+asked-keeps s q h g f n w e = (
+  subst (All (Waits (s .targets))) (sym e) (all-snoc (Waits (s .targets)) (requestsOf (s .waiting)) q (h .waiting) (g, f)),
+  λ u. subst (λ (v : List Request). countOf (isOf u) v ≤ 16) (sym e)
+      (rw (count-snoc (isOf u) (requestsOf (s .waiting)) q)
+      (few (isOf u q) _ u (q .unit) refl (h .sixteen u) (λ (d : q .unit ≡ u). subst (λ (k : ℕ). countOf (isOf k) (requestsOf (s .waiting)) < 16) d (some-room (q .unit) (s .waiting) n)))),
+)
+
+-- ---- a target removed
+without-keeps : (s : Station) (a : ℕ) → Kept s → Kept (without a s)
+unfolding without
+without-keeps s a h =
+    let t = targets-are (filter (λ (x : Target). not (isAt a x)) (targetsOf (s .targets))) (s .targets) in
+    let w = requests-are (filter (λ (q : Request). not (eqb (q .address) a)) (requestsOf (s .waiting))) (s .waiting) in
+    record {
+      shares = h .shares;
+      reach = rw t (all-kept (InReach (s .setup .reach)) (InReach (s .setup .reach)) (λ (x : Target). not (isAt a x)) (λ x p k. k) (targetsOf (s .targets)) (h .reach));
+      waiting =
+          rw w
+          (all-kept (Waits (s .targets)) _ (λ (q : Request). not (eqb (q .address) a))
+          (λ q p j. (j .0, ap (has (q .address)) t ∙ has-other (q .address) a (targetsOf (s .targets)) (eqb-false (q .address) a (not-true (eqb (q .address) a) p)) ∙ j .1))
+          (requestsOf (s .waiting)) (h .waiting));
+      sixteen = λ u. rw w (omega (arith, h .sixteen u, count-kept (isOf u) (λ (q : Request). not (eqb (q .address) a)) (requestsOf (s .waiting))));
+      entries = rw (entries-are (map (withdrawn a) (entriesOf (s .plan))) (s .plan)) (all-image (withdrawn a) (λ (e : Entry). requestRanged (e .ask .request) ≡ true) (λ (e : Entry). requestRanged (e .ask .request) ≡ true) (λ e k. k) (entriesOf (s .plan)) (h .entries));
+    }
+
+-- ---- a reply taken
+set-same : (es : List Entry) (k : ℕ) (d e : Entry) → e .ask ≡ getD es k d .ask → All (λ (x : Entry). requestRanged (x .ask .request) ≡ true) es → All (λ (x : Entry). requestRanged (x .ask .request) ≡ true) (set es k e)
+unfolding All
+set-same [] k d e q h = tt
+set-same (x ∷ es) zero d e q h = (ap (λ (a : Ask). requestRanged (a .request)) q ∙ h .0, h .1)
+set-same (x ∷ es) (suc k) d e q h = (h .0, set-same es k d e q (h .1))
+
+answered-taken : (k : ℕ) (p : Plan) → Taken p → Taken (planAnswered k p)
+answered-taken k p h =
+    rw (entries-are (set (entriesOf p) k (marked Answered (getD (entriesOf p) k noEntry))) p)
+    (set-same (entriesOf p) k noEntry (marked Answered (getD (entriesOf p) k noEntry)) refl h)
+
+reply-keeps : (s : Station) (k : ℕ) (m : List ℕ) → Kept s → Kept (heard k m s)
+unfolding heard
+reply-keeps s k m h =
+    let j = heard-keeps s h (entryNumbered k s .ask .request) (valueIn m) in
+    record { shares = h .shares; reach = j .0; waiting = j .1; sixteen = h .sixteen; entries = answered-taken k (s .plan) (h .entries) }
+
+blank-accepted : judged (blank .setup) ≡ 0
+unfolding judged sharesFit emptied every total
+blank-accepted = refl
+
+pub kept-next : (s : Station) → Kept s → (c : Call) (r : Answer) → Came s c r → Kept (r .station)
+kept-next s h c r (refusal k z e) = subst (λ (x : Answer). Kept (x .station)) (sym e) h
+kept-next s h c r (did-setup x a e) = subst (λ (x : Answer). Kept (x .station)) (sym e) (none x a)
+kept-next s h c r (did-new a near far g f e) =
+    subst (λ (x : Answer). Kept (x .station)) (sym e)
+    (let k = targets-are (targetsOf (s .targets) ++ (fresh a near far ∷ [])) (s .targets) in
+    record {
+      shares = h .shares;
+      reach = rw k (all-snoc (InReach (s .setup .reach)) (targetsOf (s .targets)) (fresh a near far) (h .reach) (reach-of a near far (s .setup .reach) g));
+      waiting =
+          all-map (Waits (s .targets)) _
+          (λ q j. (j .0, ap (has (q .address)) k ∙ has-snoc (q .address) (targetsOf (s .targets)) (fresh a near far) ∙ (rw (j .1))))
+          (requestsOf (s .waiting)) (h .waiting);
+      sixteen = h .sixteen;
+      entries = h .entries;
+    })
+kept-next s h c r (did-remove a e) = subst (λ (x : Answer). Kept (x .station)) (sym e) (without-keeps s a h)
+kept-next s h c r (did-move a near far g f e) =
+    subst (λ (x : Answer). Kept (x .station)) (sym e)
+    (let l = set (targetsOf (s .targets)) (placeIn (targetsOf (s .targets)) a) (edged near far (targetAt a (s .targets))) in
+    let k = put-keeps s h a (edged near far (targetAt a (s .targets))) (address-of a (targetsOf (s .targets)) f) (reach-of a near far (s .setup .reach) g) (targetsAs l (s .targets)) (targets-are l (s .targets)) in
+    record { shares = h .shares; reach = k .0; waiting = k .1; sixteen = h .sixteen; entries = h .entries })
+kept-next s h c r (did-request q g f n e) =
+    subst (λ (x : Answer). Kept (x .station)) (sym e)
+    (let k = asked-keeps s q h g f n (waitingAs (requestsOf (s .waiting) ++ (q ∷ [])) (s .waiting)) (requests-are (requestsOf (s .waiting) ++ (q ∷ [])) (s .waiting)) in
+    record { shares = h .shares; reach = h .reach; waiting = k .0; sixteen = k .1; entries = h .entries })
+kept-next s h c r (did-plan tag e) = subst (λ (x : Answer). Kept (x .station)) (sym e) (planned-keeps s tag h)
+kept-next s h c r (did-reply k tag msg marks out m o e) = subst (λ (x : Answer). Kept (x .station)) (sym e) (reply-keeps s k m h)
+kept-next s h c r (did-report a e) = subst (λ (x : Answer). Kept (x .station)) (sym e) h
+
+-- every history keeps it
+pub always-kept : (cs : List Call) → Kept (after cs)
+unfolding after emptied
+always-kept [] = none (blank .setup) blank-accepted
+always-kept (c ∷ cs) = kept-next (after cs) (always-kept cs) c (answer (after cs) c) (came (after cs) c)
+
+-- ---- refusal 6 to a request, as the paper has it: the slots never run out before
+pub six : (cs : List Call) (u : ℕ) → u < 8 → unitFull u (after cs .waiting) ≡ leb 16 (countOf (isOf u) (requestsOf (after cs .waiting)))
+unfolding unitFull
+six cs u l =
+    let h = always-kept cs in
+    either _ _
+    (λ e. lt-leb _ _ (fewer (λ (q : Request). q .unit) (requestsOf (after cs .waiting)) u (all-map (Waits (after cs .targets)) (λ (q : Request). q .unit < 8) (λ q k. unit-of q (k .0)) (requestsOf (after cs .waiting)) (h .waiting)) (λ v _. h .sixteen v) l (leb-false 16 _ e)))
+  where
+    either : (a b : Bool) → (a ≡ false → b ≡ false) → a || b ≡ a
+    either true b h = refl
+    either false b h = h refl
