@@ -15,7 +15,6 @@ use Rattle.frames.specs.Building.{anAddress}
 use Rattle.planner.specs.declared.request.Request.{Request}
 use Rattle.planner.specs.declared.shares.Setup.{Setup}
 use Rattle.planner.specs.Shares.{judged}
-use Rattle.station.specs.declared.state.Value.the-variants.{Never}
 use Rattle.station.specs.declared.state.Station.{Station}
 use Rattle.station.specs.declared.state.Answer.{Answer}
 use Rattle.station.specs.declared.state.Report.{Report}

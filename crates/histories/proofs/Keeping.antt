@@ -11,7 +11,7 @@ use Rattle.lists.specs.Lists.{pick, countOf, every, total, filter, All}
 use Rattle.lists.proofs.Tests.{and-left, and-right}
 use Rattle.lists.proofs.Over.{take-over}
 use Rattle.lists.proofs.Count.{count-nil, count-snoc}
-use Rattle.lists.proofs.Held.{all-nil, all-snoc, all-map}
+use Rattle.lists.proofs.Held.{all-snoc, all-map}
 use Rattle.lists.proofs.Each.{all-set, all-kept, count-kept, none-fail, all-pass, all-image, count-image}
 use Rattle.lists.proofs.Keys.{fewer}
 use Rattle.frames.specs.Formats.{surveillance}
@@ -31,8 +31,8 @@ use Rattle.station.specs.declared.state.Plan.{Plan}
 use Rattle.station.specs.declared.state.Station.{Station}
 use Rattle.station.specs.declared.state.Answer.{Answer}
 use Rattle.station.specs.State.{targetsOf, targetsAs, isAt, placeIn, inList, fresh, targetAt, older, targetsOlder, requestsOf, waitingAs, isOf, entriesOf, planAs, withdrawn, marked, noEntry, emptied, blank}
-use Rattle.station.specs.Calls.{done, targetRanged, requestRanged, unitFull, without, edged}
-use Rattle.station.specs.Planning.{askFor, requestOf, asked, boardFor, planWith, nextPlan}
+use Rattle.station.specs.Calls.{targetRanged, requestRanged, unitFull, without, edged}
+use Rattle.station.specs.Planning.{askFor, requestOf, asked, boardFor, nextPlan}
 use Rattle.station.specs.Replies.{saidIn, saidID, saidAC, holdsID, expected, targetsHeard, entryNumbered, valueIn, planAnswered, heard}
 use Rattle.histories.specs.History.{Call, answer, after}
 use Rattle.histories.specs.Kept.{InReach, Waits, Kept}

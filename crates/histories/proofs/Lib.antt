@@ -4,3 +4,5 @@ pub mod Came
 pub mod Keeping
 pub mod Ages
 pub mod Replies
+pub mod Numbers
+pub mod Demands

@@ -12,7 +12,7 @@ use Rattle.station.specs.Planning.{asked, askFor, nextPlan}
 use Rattle.station.specs.Replies.{Replied, expected, replied}
 use Rattle.histories.specs.History.{Call, answer, after}
 use Rattle.histories.specs.Numbers.{given, checks, requestAt}
-use Rattle.histories.specs.Seen.{Kind, Said, never, events, lastSaid, shown, reportOf}
+use Rattle.histories.specs.Seen.{Kind, events, lastSaid, shown, reportOf}
 
 -- demand 1: each number is given exactly when the table says, and a refusal changes nothing, neither the station nor a lent buffer
 pub record Demand1 (cs : List Call) : Type 0 where

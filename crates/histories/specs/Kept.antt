@@ -1,5 +1,5 @@
 -- What every history of calls keeps true of the station.
-use Prim.Native.Nat.{ℕ, _≤_, _<_}
+use Prim.Native.Nat.{ℕ, _≤_}
 use mathlib.Core.Path.{_≡_}
 use mathlib.Core.Bool.{true}
 use Rattle.lists.specs.Lists.{All, countOf}

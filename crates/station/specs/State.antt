@@ -1,7 +1,7 @@
 -- The lists that the parts of a station hold, and the parts with another list. A count above a part's slots counts all of them.
 use Prim.Native.Nat.{ℕ, _+_}
 use mathlib.Core.List.{List, [], _∷_, _++_, map}
-use mathlib.Core.Bool.{Bool, true, false, not}
+use mathlib.Core.Bool.{Bool, not}
 use lib.ListN.{length, take, set, getD, replicate}
 use lib.Dec.{eqb, ltb}
 use Rattle.lists.specs.Lists.{pick, indexOf, filter, over}

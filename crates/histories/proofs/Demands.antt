@@ -1,0 +1,69 @@
+-- The demands, over every history of calls.
+use Prim.Native.Nat.{ℕ}
+use mathlib.Core.Path.{_≡_, refl, ap, ap₂, _∙_}
+use mathlib.Core.List.{List, [], _∷_, map}
+use Rattle.lists.specs.Lists.{All}
+use Rattle.lists.proofs.Each.{all-image}
+use Rattle.parity.specs.Messages.{AreBytes}
+use Rattle.planner.specs.declared.request.Request.{Request}
+use Rattle.planner.specs.declared.request.Ask.{Ask}
+use Rattle.planner.proofs.Demand3.{demand3, left-each}
+use Rattle.station.specs.declared.state.Station.{Station}
+use Rattle.station.specs.declared.state.Targets.{Targets}
+use Rattle.station.specs.State.{requestsOf}
+use Rattle.station.specs.Planning.{askFor, requestOf, asked, boardFor, nextPlan}
+use Rattle.station.specs.Replies.{replied}
+use Rattle.histories.specs.History.{Call, after}
+use Rattle.histories.specs.Kept.{Kept}
+use Rattle.histories.specs.Demands.{Demand1, Ages, Believed, Plans}
+use Rattle.histories.proofs.Came.{refusal-changes-nothing, refused-reply-writes-nothing}
+use Rattle.histories.proofs.Keeping.{proper, plan-shows, plan-leaves, always-kept}
+use Rattle.histories.proofs.Numbers.{numbers}
+use Rattle.histories.proofs.Ages.{report-is}
+use Rattle.histories.proofs.Replies.{believed}
+
+-- demand 1
+pub demand1 : (cs : List Call) → Demand1 cs
+demand1 cs =
+    record {
+      numbers = numbers cs;
+      unchanged = refusal-changes-nothing (after cs);
+      unwritten = refused-reply-writes-nothing (after cs);
+    }
+
+-- demand 2, ages
+pub ages : (cs : List Call) → Ages cs
+ages cs = record { told = report-is cs }
+
+-- demand 2, replies
+pub replies : (cs : List Call) (k tag : ℕ) (msg marks out : List ℕ) → AreBytes msg → replied (after cs) k tag msg marks out .number ≡ 0 → Believed (after cs) k msg marks (replied (after cs) k tag msg marks out)
+replies cs k tag msg marks out bytes e = believed (after cs) k msg marks out bytes tag e
+
+-- ---- demand 3
+-- what is left waits with near and far of its target, as it was asked
+abbrev Same : Targets → Ask → Type 0
+Same t a = askFor t (a .request) ≡ a
+
+same-back : (t : Targets) (v : List Ask) → All (Same t) v → map (askFor t) (map requestOf v) ≡ v
+unfolding All
+same-back t [] h = refl
+same-back t (a ∷ v) h = ap₂ (λ (x : Ask) (l : List Ask). x ∷ l) (h .0) (same-back t v (h .1))
+
+left-back : (s : Station) → Kept s → (tag : ℕ) → map (askFor (s .targets)) (requestsOf (nextPlan s tag .waiting)) ≡ boardFor s .waiting
+unfolding boardFor asked All
+left-back s h tag =
+    ap (map (askFor (s .targets))) (plan-leaves s tag)
+    ∙ same-back (s .targets) (boardFor s .waiting)
+    (left-each (s .setup) (h .shares) (asked s) (Same (s .targets))
+    (all-image (askFor (s .targets)) (λ (q : Request). Same (s .targets) (askFor (s .targets) q)) (Same (s .targets)) (λ q k. k) (requestsOf (s .waiting)) (each (requestsOf (s .waiting)))))
+  where
+    each : (v : List Request) → All (λ (q : Request). Same (s .targets) (askFor (s .targets) q)) v
+    each [] = tt
+    each (q ∷ v) = (refl, each v)
+
+pub plans : (cs : List Call) → Plans cs
+unfolding boardFor
+plans cs =
+    record {
+      demand = λ tag. rw (plan-shows (after cs) tag, left-back (after cs) (always-kept cs) tag) (demand3 (after cs .setup) (always-kept cs .shares) (asked (after cs)) (proper (after cs) (always-kept cs)));
+    }
