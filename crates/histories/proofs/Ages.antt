@@ -14,17 +14,17 @@ use Rattle.planner.specs.declared.entry.Entry.{Entry}
 use Rattle.planner.specs.declared.entry.Mark.the-variants.{Answered}
 use Rattle.planner.specs.declared.shares.Setup.{Setup}
 use Rattle.planner.specs.Demand3.{askOf}
-use Rattle.station.specs.declared.state.Value.{Value}
-use Rattle.station.specs.declared.state.Value.the-variants.{Never, Heard}
-use Rattle.station.specs.declared.state.Target.{Target}
-use Rattle.station.specs.declared.state.Targets.{Targets}
-use Rattle.station.specs.declared.state.Station.{Station}
-use Rattle.station.specs.declared.state.Answer.{Answer}
-use Rattle.station.specs.declared.state.Report.{Report}
-use Rattle.station.specs.State.{targetsOf, targetsAs, isAt, placeIn, inList, fresh, targetAt, ageAfter, valueAfter, older, entriesOf, withdrawn, marked, noAsk, noEntry, emptied, blank}
-use Rattle.station.specs.Calls.{without, edged, refusedReport, reported}
-use Rattle.station.specs.Planning.{nextPlan}
-use Rattle.station.specs.Replies.{holdsID, expected, saidID, saidAC, saidIn, targetsHeard, entryNumbered, valueIn, heard}
+use Rattle.histories.specs.declared.state.Value.{Value}
+use Rattle.histories.specs.declared.state.Value.the-variants.{Never, Heard}
+use Rattle.histories.specs.declared.state.Target.{Target}
+use Rattle.histories.specs.declared.state.Targets.{Targets}
+use Rattle.histories.specs.declared.state.Station.{Station}
+use Rattle.histories.specs.declared.state.Answer.{Answer}
+use Rattle.histories.specs.declared.state.Report.{Report}
+use Rattle.histories.specs.State.{targetsOf, targetsAs, isAt, placeIn, inList, fresh, targetAt, ageAfter, valueAfter, older, entriesOf, withdrawn, marked, noAsk, noEntry, emptied, blank}
+use Rattle.histories.specs.Calls.{without, edged, refusedReport, reported}
+use Rattle.histories.specs.Planning.{nextPlan}
+use Rattle.histories.specs.Replies.{holdsID, expected, saidID, saidAC, saidIn, targetsHeard, entryNumbered, valueIn, heard}
 use Rattle.histories.specs.History.{Call, setup, new, remove, move, request, plan, reply, report, answer, after}
 use Rattle.histories.specs.Seen.{events, asksShown, outputShown, asksAfter, inForce, Kind, AC, ID, Said, never, said, onePlanMore, draws, isFrom, saidAfter, lastSaid, shown, reportOf}
 use Rattle.histories.proofs.Lookup.{has, look, has-nil, has-snoc, look-snoc, has-map, look-map, has-other, look-other, has-gone, has-put, look-put, look-put-other}

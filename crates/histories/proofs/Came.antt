@@ -15,13 +15,13 @@ use Rattle.frames.specs.Building.{anAddress}
 use Rattle.planner.specs.declared.request.Request.{Request}
 use Rattle.planner.specs.declared.shares.Setup.{Setup}
 use Rattle.planner.specs.Shares.{judged}
-use Rattle.station.specs.declared.state.Station.{Station}
-use Rattle.station.specs.declared.state.Answer.{Answer}
-use Rattle.station.specs.declared.state.Report.{Report}
-use Rattle.station.specs.State.{inList, fresh, targetAt, targetsWith, targetsPut, waitingWith, entriesOf, withTargets, withWaiting, emptied}
-use Rattle.station.specs.Calls.{refused, done, setUp, targetRanged, requestRanged, targetsFull, unitFull, newTarget, without, removed, edged, moved, requested, refusedReport, reported}
-use Rattle.station.specs.Planning.{nextPlan}
-use Rattle.station.specs.Replies.{expected, entryNumbered, isOpen, startOf, inWindow, heard, Replied, refusedReply, settled, corrected, replied}
+use Rattle.histories.specs.declared.state.Station.{Station}
+use Rattle.histories.specs.declared.state.Answer.{Answer}
+use Rattle.histories.specs.declared.state.Report.{Report}
+use Rattle.histories.specs.State.{inList, fresh, targetAt, targetsWith, targetsPut, waitingWith, entriesOf, withTargets, withWaiting, emptied}
+use Rattle.histories.specs.Calls.{refused, done, setUp, targetRanged, requestRanged, targetsFull, unitFull, newTarget, without, removed, edged, moved, requested, refusedReport, reported}
+use Rattle.histories.specs.Planning.{nextPlan}
+use Rattle.histories.specs.Replies.{expected, entryNumbered, isOpen, startOf, inWindow, heard, Replied, refusedReply, settled, corrected, replied}
 use Rattle.histories.specs.History.{Call, setup, new, remove, move, request, plan, reply, report, answer}
 
 pub data Came (s : Station) : Call → Answer → Type 0 where

@@ -8,11 +8,11 @@ use Rattle.parity.specs.Messages.{AreBytes}
 use Rattle.planner.specs.declared.request.Request.{Request}
 use Rattle.planner.specs.declared.request.Ask.{Ask}
 use Rattle.planner.proofs.Demand3.{demand3, left-each}
-use Rattle.station.specs.declared.state.Station.{Station}
-use Rattle.station.specs.declared.state.Targets.{Targets}
-use Rattle.station.specs.State.{requestsOf}
-use Rattle.station.specs.Planning.{askFor, requestOf, asked, boardFor, nextPlan}
-use Rattle.station.specs.Replies.{replied}
+use Rattle.histories.specs.declared.state.Station.{Station}
+use Rattle.histories.specs.declared.state.Targets.{Targets}
+use Rattle.histories.specs.State.{requestsOf}
+use Rattle.histories.specs.Planning.{askFor, requestOf, asked, boardFor, nextPlan}
+use Rattle.histories.specs.Replies.{replied}
 use Rattle.histories.specs.History.{Call, after}
 use Rattle.histories.specs.Kept.{Kept}
 use Rattle.histories.specs.Demands.{Demand1, Ages, Believed, Plans}

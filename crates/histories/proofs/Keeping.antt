@@ -24,16 +24,16 @@ use Rattle.planner.specs.declared.shares.Setup.{Setup}
 use Rattle.planner.specs.Demand3.{Proper}
 use Rattle.planner.specs.Shares.{judged, sharesFit}
 use Rattle.planner.proofs.Demand3.{demand3, left-each}
-use Rattle.station.specs.declared.state.Target.{Target}
-use Rattle.station.specs.declared.state.Targets.{Targets}
-use Rattle.station.specs.declared.state.Waiting.{Waiting}
-use Rattle.station.specs.declared.state.Plan.{Plan}
-use Rattle.station.specs.declared.state.Station.{Station}
-use Rattle.station.specs.declared.state.Answer.{Answer}
-use Rattle.station.specs.State.{targetsOf, targetsAs, isAt, placeIn, inList, fresh, targetAt, older, targetsOlder, requestsOf, waitingAs, isOf, entriesOf, planAs, withdrawn, marked, noEntry, emptied, blank}
-use Rattle.station.specs.Calls.{targetRanged, requestRanged, unitFull, without, edged}
-use Rattle.station.specs.Planning.{askFor, requestOf, asked, boardFor, nextPlan}
-use Rattle.station.specs.Replies.{saidIn, saidID, saidAC, holdsID, expected, targetsHeard, entryNumbered, valueIn, planAnswered, heard}
+use Rattle.histories.specs.declared.state.Target.{Target}
+use Rattle.histories.specs.declared.state.Targets.{Targets}
+use Rattle.histories.specs.declared.state.Waiting.{Waiting}
+use Rattle.histories.specs.declared.state.Plan.{Plan}
+use Rattle.histories.specs.declared.state.Station.{Station}
+use Rattle.histories.specs.declared.state.Answer.{Answer}
+use Rattle.histories.specs.State.{targetsOf, targetsAs, isAt, placeIn, inList, fresh, targetAt, older, targetsOlder, requestsOf, waitingAs, isOf, entriesOf, planAs, withdrawn, marked, noEntry, emptied, blank}
+use Rattle.histories.specs.Calls.{targetRanged, requestRanged, unitFull, without, edged}
+use Rattle.histories.specs.Planning.{askFor, requestOf, asked, boardFor, nextPlan}
+use Rattle.histories.specs.Replies.{saidIn, saidID, saidAC, holdsID, expected, targetsHeard, entryNumbered, valueIn, planAnswered, heard}
 use Rattle.histories.specs.History.{Call, answer, after}
 use Rattle.histories.specs.Kept.{InReach, Waits, Kept}
 use Rattle.histories.proofs.Lookup.{has, look, has-nil, has-cons, look-cons, has-snoc, has-map, has-other, has-put}

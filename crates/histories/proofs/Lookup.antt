@@ -8,8 +8,8 @@ use mathlib.Core.Bool.{Bool, true, false, not, false≢true}
 use lib.ListN.{length, getD, set}
 use lib.Dec.{eqb, ltb}
 use Rattle.lists.specs.Lists.{pick, indexOf, filter}
-use Rattle.station.specs.declared.state.Target.{Target}
-use Rattle.station.specs.State.{isAt, placeIn, fresh}
+use Rattle.histories.specs.declared.state.Target.{Target}
+use Rattle.histories.specs.State.{isAt, placeIn, fresh}
 
 abbrev pub has : ℕ → List Target → Bool
 has a ts = ltb (placeIn ts a) (length ts)

@@ -20,12 +20,12 @@ use Rattle.planner.specs.declared.request.Request.{Request}
 use Rattle.planner.specs.declared.entry.Entry.{Entry}
 use Rattle.planner.specs.declared.shares.Setup.{Setup}
 use Rattle.planner.specs.Shares as shares
-use Rattle.station.specs.declared.state.Station.{Station}
-use Rattle.station.specs.declared.state.Answer.{Answer}
-use Rattle.station.specs.declared.state.Report.{Report}
-use Rattle.station.specs.State.{inList, entriesOf, noEntry, emptied}
-use Rattle.station.specs.Calls as calls
-use Rattle.station.specs.Replies.{expected, entryNumbered, isOpen, startOf, inWindow, ofFormat, Replied, refusedReply, settled, corrected, replied}
+use Rattle.histories.specs.declared.state.Station.{Station}
+use Rattle.histories.specs.declared.state.Answer.{Answer}
+use Rattle.histories.specs.declared.state.Report.{Report}
+use Rattle.histories.specs.State.{inList, entriesOf, noEntry, emptied}
+use Rattle.histories.specs.Calls as calls
+use Rattle.histories.specs.Replies.{expected, entryNumbered, isOpen, startOf, inWindow, ofFormat, Replied, refusedReply, settled, corrected, replied}
 use Rattle.histories.specs.History.{Call, setup, new, remove, move, request, plan, reply, report, answer, after}
 use Rattle.histories.specs.Numbers.{given, setupRanged, sharesGood, requestAt, replyChecks, checks}
 use Rattle.histories.specs.Kept.{Kept}

@@ -14,9 +14,9 @@ use Rattle.parity.specs.Messages.{AreBytes}
 use Rattle.parity.proofs.Outcomes as parity
 use Rattle.frames.specs.Formats.{lengthOf}
 use Rattle.frames.specs.Reading.{formatOf}
-use Rattle.station.specs.declared.state.Station.{Station}
-use Rattle.station.specs.State.{entriesOf}
-use Rattle.station.specs.Replies.{expected, entryNumbered, isOpen, startOf, inWindow, ofFormat, Replied, refusedReply, settled, corrected, replied}
+use Rattle.histories.specs.declared.state.Station.{Station}
+use Rattle.histories.specs.State.{entriesOf}
+use Rattle.histories.specs.Replies.{expected, entryNumbered, isOpen, startOf, inWindow, ofFormat, Replied, refusedReply, settled, corrected, replied}
 use Rattle.histories.specs.Numbers.{requestAt}
 use Rattle.histories.specs.Demands.{Believed}
 

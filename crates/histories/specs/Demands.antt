@@ -5,11 +5,11 @@ use mathlib.Core.List.{List, map}
 use Rattle.parity.specs.Corrected.{Corrected}
 use Rattle.frames.specs.Reading.{formatOf}
 use Rattle.planner.specs.Demand3.{Demand3}
-use Rattle.station.specs.declared.state.Station.{Station}
-use Rattle.station.specs.State.{entriesOf, requestsOf}
-use Rattle.station.specs.Calls.{reported}
-use Rattle.station.specs.Planning.{asked, askFor, nextPlan}
-use Rattle.station.specs.Replies.{Replied, expected, replied}
+use Rattle.histories.specs.declared.state.Station.{Station}
+use Rattle.histories.specs.State.{entriesOf, requestsOf}
+use Rattle.histories.specs.Calls.{reported}
+use Rattle.histories.specs.Planning.{asked, askFor, nextPlan}
+use Rattle.histories.specs.Replies.{Replied, expected, replied}
 use Rattle.histories.specs.History.{Call, answer, after}
 use Rattle.histories.specs.Numbers.{given, checks, requestAt}
 use Rattle.histories.specs.Seen.{Kind, events, lastSaid, shown, reportOf}

@@ -3,12 +3,12 @@ use Prim.Native.Nat.{ℕ}
 use mathlib.Core.List.{List, [], _∷_}
 use Rattle.planner.specs.declared.request.Request.{Request}
 use Rattle.planner.specs.declared.shares.Setup.{Setup}
-use Rattle.station.specs.declared.state.Station.{Station}
-use Rattle.station.specs.declared.state.Answer.{Answer}
-use Rattle.station.specs.State.{blank}
-use Rattle.station.specs.Calls.{setUp, newTarget, removed, moved, requested, reported}
-use Rattle.station.specs.Planning.{nextPlan}
-use Rattle.station.specs.Replies.{replied}
+use Rattle.histories.specs.declared.state.Station.{Station}
+use Rattle.histories.specs.declared.state.Answer.{Answer}
+use Rattle.histories.specs.State.{blank}
+use Rattle.histories.specs.Calls.{setUp, newTarget, removed, moved, requested, reported}
+use Rattle.histories.specs.Planning.{nextPlan}
+use Rattle.histories.specs.Replies.{replied}
 
 -- a call with all that it is given; a reply with its entry, tag, message, marks and the buffer that it is lent
 pub data Call : Type 0 where

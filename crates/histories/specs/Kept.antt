@@ -6,11 +6,11 @@ use Rattle.lists.specs.Lists.{All, countOf}
 use Rattle.planner.specs.declared.request.Request.{Request}
 use Rattle.planner.specs.declared.entry.Entry.{Entry}
 use Rattle.planner.specs.Shares.{judged}
-use Rattle.station.specs.declared.state.Target.{Target}
-use Rattle.station.specs.declared.state.Targets.{Targets}
-use Rattle.station.specs.declared.state.Station.{Station}
-use Rattle.station.specs.State.{targetsOf, requestsOf, entriesOf, inList, isOf}
-use Rattle.station.specs.Calls.{requestRanged}
+use Rattle.histories.specs.declared.state.Target.{Target}
+use Rattle.histories.specs.declared.state.Targets.{Targets}
+use Rattle.histories.specs.declared.state.Station.{Station}
+use Rattle.histories.specs.State.{targetsOf, requestsOf, entriesOf, inList, isOf}
+use Rattle.histories.specs.Calls.{requestRanged}
 
 -- "near ≤ far ≤ R"
 abbrev pub InReach : ℕ → Target → Type 0

@@ -13,10 +13,10 @@ use Rattle.frames.specs.Reading.{formatOf}
 use Rattle.planner.specs.declared.shares.Setup.{Setup}
 use Rattle.planner.specs.declared.request.Request.{Request}
 use Rattle.planner.specs.Shares.{inRange, ordered, sharesFit}
-use Rattle.station.specs.declared.state.Station.{Station}
-use Rattle.station.specs.State.{inList, targetsOf, requestsOf, isOf, entriesOf}
-use Rattle.station.specs.Calls.{targetRanged, requestRanged}
-use Rattle.station.specs.Replies.{entryNumbered, isOpen, expected, startOf, inWindow}
+use Rattle.histories.specs.declared.state.Station.{Station}
+use Rattle.histories.specs.State.{inList, targetsOf, requestsOf, isOf, entriesOf}
+use Rattle.histories.specs.Calls.{targetRanged, requestRanged}
+use Rattle.histories.specs.Replies.{entryNumbered, isOpen, expected, startOf, inWindow}
 use Rattle.histories.specs.History.{Call, setup, new, remove, move, request, plan, reply, report}
 
 -- a line of the table, for one call: the number, and whether it is the case

@@ -8,13 +8,13 @@ use lib.ListN.{getD}
 use Rattle.lists.specs.Lists.{pick}
 use Rattle.planner.specs.declared.request.Ask.{Ask}
 use Rattle.planner.specs.Demand3.{askOf}
-use Rattle.station.specs.declared.state.Value.{Value}
-use Rattle.station.specs.declared.state.Value.the-variants.{Never, Heard}
-use Rattle.station.specs.declared.state.Report.{Report}
-use Rattle.station.specs.declared.state.Station.{Station}
-use Rattle.station.specs.State.{entriesOf, noAsk}
-use Rattle.station.specs.Planning.{nextPlan}
-use Rattle.station.specs.Replies.{expected, holdsID, valueIn, replied}
+use Rattle.histories.specs.declared.state.Value.{Value}
+use Rattle.histories.specs.declared.state.Value.the-variants.{Never, Heard}
+use Rattle.histories.specs.declared.state.Report.{Report}
+use Rattle.histories.specs.declared.state.Station.{Station}
+use Rattle.histories.specs.State.{entriesOf, noAsk}
+use Rattle.histories.specs.Planning.{nextPlan}
+use Rattle.histories.specs.Replies.{expected, holdsID, valueIn, replied}
 use Rattle.histories.specs.History.{Call, setup, new, remove, move, request, plan, reply, report, answer, after}
 
 -- ---- what the caller saw of a call: the call, its number, what each entry of a plan asks, and the corrected message of a reply

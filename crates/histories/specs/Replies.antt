@@ -19,13 +19,13 @@ use Rattle.planner.specs.declared.entry.Entry.{Entry}
 use Rattle.planner.specs.declared.entry.Mark.{Mark}
 use Rattle.planner.specs.declared.entry.Mark.the-variants.{Open, Answered, Withdrawn}
 use Rattle.planner.specs.Exchange.{earliest, delay, latest}
-use Rattle.station.specs.declared.state.Value.the-variants.{Heard}
-use Rattle.station.specs.declared.state.Target.{Target}
-use Rattle.station.specs.declared.state.Targets.{Targets}
-use Rattle.station.specs.declared.state.Plan.{Plan}
-use Rattle.station.specs.declared.state.Station.{Station}
-use Rattle.station.specs.declared.state.Reply.{Reply}
-use Rattle.station.specs.State.{inList, targetAt, targetsPut, entriesOf, planAs, marked, noEntry}
+use Rattle.histories.specs.declared.state.Value.the-variants.{Heard}
+use Rattle.histories.specs.declared.state.Target.{Target}
+use Rattle.histories.specs.declared.state.Targets.{Targets}
+use Rattle.histories.specs.declared.state.Plan.{Plan}
+use Rattle.histories.specs.declared.state.Station.{Station}
+use Rattle.histories.specs.declared.state.Reply.{Reply}
+use Rattle.histories.specs.State.{inList, targetAt, targetsPut, entriesOf, planAs, marked, noEntry}
 
 -- ---- what the entry's request expects
 -- a request that draws nothing, which no call lets in, would expect format 0

@@ -8,10 +8,10 @@ use Rattle.planner.specs.declared.request.Ask.{Ask}
 use Rattle.planner.specs.declared.request.Asks.{Asks}
 use Rattle.planner.specs.declared.entry.Entry.{Entry}
 use Rattle.planner.specs.Plan.{Board, plan}
-use Rattle.station.specs.declared.state.Targets.{Targets}
-use Rattle.station.specs.declared.state.Plan.{Plan}
-use Rattle.station.specs.declared.state.Station.{Station}
-use Rattle.station.specs.State.{targetAt, targetsOlder, requestsOf, waitingAs, noAsk}
+use Rattle.histories.specs.declared.state.Targets.{Targets}
+use Rattle.histories.specs.declared.state.Plan.{Plan}
+use Rattle.histories.specs.declared.state.Station.{Station}
+use Rattle.histories.specs.State.{targetAt, targetsOlder, requestsOf, waitingAs, noAsk}
 
 -- a request with near and far of its target as they are now
 abbrev pub askFor : Targets → Request → Ask

@@ -9,14 +9,14 @@ use Rattle.planner.specs.declared.shares.Setup.{Setup}
 use Rattle.planner.specs.Shares.{judged}
 use Rattle.frames.specs.Formats.{surveillance}
 use Rattle.frames.specs.Building.{anAddress, selectiveRanged}
-use Rattle.station.specs.declared.state.Value.the-variants.{Never}
-use Rattle.station.specs.declared.state.Target.{Target}
-use Rattle.station.specs.declared.state.Targets.{Targets}
-use Rattle.station.specs.declared.state.Waiting.{Waiting}
-use Rattle.station.specs.declared.state.Station.{Station}
-use Rattle.station.specs.declared.state.Answer.{Answer}
-use Rattle.station.specs.declared.state.Report.{Report}
-use Rattle.station.specs.State.{targetsOf, inList, fresh, targetAt, targetsWith, targetsWithout, targetsPut, requestsOf, isOf, waitingWith, waitingWithout, planWithdrawn, withTargets, withWaiting, emptied}
+use Rattle.histories.specs.declared.state.Value.the-variants.{Never}
+use Rattle.histories.specs.declared.state.Target.{Target}
+use Rattle.histories.specs.declared.state.Targets.{Targets}
+use Rattle.histories.specs.declared.state.Waiting.{Waiting}
+use Rattle.histories.specs.declared.state.Station.{Station}
+use Rattle.histories.specs.declared.state.Answer.{Answer}
+use Rattle.histories.specs.declared.state.Report.{Report}
+use Rattle.histories.specs.State.{targetsOf, inList, fresh, targetAt, targetsWith, targetsWithout, targetsPut, requestsOf, isOf, waitingWith, waitingWithout, planWithdrawn, withTargets, withWaiting, emptied}
 
 -- "a refusal returns its number alone and changes nothing"
 abbrev pub refused : ℕ → Station → Answer

@@ -11,13 +11,13 @@ use Rattle.planner.specs.declared.entry.Entry.{Entry}
 use Rattle.planner.specs.declared.entry.Mark.{Mark}
 use Rattle.planner.specs.declared.entry.Mark.the-variants.{Open, Answered, Withdrawn}
 use Rattle.planner.specs.declared.shares.Setup.{Setup}
-use Rattle.station.specs.declared.state.Value.{Value}
-use Rattle.station.specs.declared.state.Value.the-variants.{Never, Heard}
-use Rattle.station.specs.declared.state.Target.{Target}
-use Rattle.station.specs.declared.state.Targets.{Targets}
-use Rattle.station.specs.declared.state.Waiting.{Waiting}
-use Rattle.station.specs.declared.state.Plan.{Plan}
-use Rattle.station.specs.declared.state.Station.{Station}
+use Rattle.histories.specs.declared.state.Value.{Value}
+use Rattle.histories.specs.declared.state.Value.the-variants.{Never, Heard}
+use Rattle.histories.specs.declared.state.Target.{Target}
+use Rattle.histories.specs.declared.state.Targets.{Targets}
+use Rattle.histories.specs.declared.state.Waiting.{Waiting}
+use Rattle.histories.specs.declared.state.Plan.{Plan}
+use Rattle.histories.specs.declared.state.Station.{Station}
 
 -- ---- targets
 -- the targets held, in their order
