@@ -4,5 +4,6 @@ pub mod Came
 pub mod Keeping
 pub mod Ages
 pub mod Replies
+pub mod Windows
 pub mod Numbers
 pub mod Demands
