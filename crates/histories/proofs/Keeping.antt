@@ -8,7 +8,7 @@ use mathlib.Core.Bool.{Bool, true, false, not, _&&_, _||_, false≢true}
 use lib.ListN.{length, getD, set}
 use lib.Dec.{eqb, leb}
 use Rattle.lists.specs.Lists.{pick, countOf, every, total, filter, All}
-use Rattle.lists.proofs.Tests.{and-left, and-right}
+use Rattle.lists.proofs.Tests.{and-left, and-right, and-yes}
 use Rattle.lists.proofs.Over.{take-over}
 use Rattle.lists.proofs.Count.{count-nil, count-snoc}
 use Rattle.lists.proofs.Held.{all-snoc, all-map}
@@ -19,7 +19,8 @@ use Rattle.frames.specs.Building.{anAddress, selectiveRanged}
 use Rattle.planner.specs.declared.request.Request.{Request}
 use Rattle.planner.specs.declared.request.Ask.{Ask}
 use Rattle.planner.specs.declared.entry.Entry.{Entry}
-use Rattle.planner.specs.declared.entry.Mark.the-variants.{Answered}
+use Rattle.planner.specs.declared.entry.Mark.{Mark}
+use Rattle.planner.specs.declared.entry.Mark.the-variants.{Open, Answered, Withdrawn}
 use Rattle.planner.specs.declared.shares.Setup.{Setup}
 use Rattle.planner.specs.Demand3.{Proper}
 use Rattle.planner.specs.Shares.{judged, sharesFit}
@@ -30,12 +31,12 @@ use Rattle.histories.specs.declared.state.Waiting.{Waiting}
 use Rattle.histories.specs.declared.state.Plan.{Plan}
 use Rattle.histories.specs.declared.state.Station.{Station}
 use Rattle.histories.specs.declared.state.Answer.{Answer}
-use Rattle.histories.specs.State.{targetsOf, targetsAs, isAt, placeIn, inList, fresh, targetAt, older, targetsOlder, requestsOf, waitingAs, isOf, entriesOf, planAs, withdrawn, marked, noEntry, emptied, blank}
+use Rattle.histories.specs.State.{targetsOf, targetsAs, targetsWith, targetsPut, markWithdrawn, isAt, placeIn, inList, fresh, targetAt, older, targetsOlder, requestsOf, waitingAs, isOf, entriesOf, planAs, withdrawn, marked, noEntry, emptied, blank}
 use Rattle.histories.specs.Calls.{targetRanged, requestRanged, unitFull, without, edged}
 use Rattle.histories.specs.Planning.{askFor, requestOf, asked, boardFor, nextPlan}
-use Rattle.histories.specs.Replies.{saidIn, saidID, saidAC, holdsID, expected, targetsHeard, entryNumbered, valueIn, planAnswered, heard}
+use Rattle.histories.specs.Replies.{isOpen, saidIn, saidID, saidAC, holdsID, expected, targetsHeard, entryNumbered, valueIn, planAnswered, heard}
 use Rattle.histories.specs.History.{Call, answer, after}
-use Rattle.histories.specs.Kept.{InReach, Waits, Kept}
+use Rattle.histories.specs.Kept.{InReach, Waits, Entered, Kept}
 use Rattle.histories.proofs.Lookup.{has, look, has-nil, has-cons, look-cons, has-snoc, has-map, has-other, has-put}
 use Rattle.histories.proofs.Came.{Came, refusal, did-setup, did-new, did-remove, did-move, did-request, did-plan, did-reply, did-report, came}
 
@@ -95,19 +96,29 @@ Waiting-for t w = All (Waits t) (requestsOf w)
 abbrev Sixteen : Waiting → Type 0
 Sixteen w = (u : ℕ) → countOf (isOf u) (requestsOf w) ≤ 16
 
-abbrev Taken : Plan → Type 0
-Taken p = All (λ (e : Entry). requestRanged (e .ask .request) ≡ true) (entriesOf p)
+abbrev Entries : Targets → Plan → Type 0
+Entries t p = All (Entered t) (entriesOf p)
+
+-- every address that was in the list still is
+abbrev Stays : Targets → Targets → Type 0
+Stays t u = (a : ℕ) → inList a t ≡ true → inList a u ≡ true
+
+waits-on : (t u : Targets) (w : Waiting) → Stays t u → Waiting-for t w → Waiting-for u w
+waits-on t u w f h = all-map (Waits t) (Waits u) (λ q k. (k .0, f (q .address) (k .1))) (requestsOf w) h
+
+entries-on : (t u : Targets) (p : Plan) → Stays t u → Entries t p → Entries u p
+entries-on t u p f h = all-map (Entered t) (Entered u) (λ e k. (k .0, λ o. f (e .ask .request .address) (k .1 o))) (entriesOf p) h
 
 none : (h : Setup) → judged h ≡ 0 → Kept (emptied h)
 unfolding emptied All
 none h a = record { shares = a; reach = tt; waiting = tt; sixteen = λ u. omega (arith, count-nil (isOf u)); entries = tt }
 
 -- another target in the place of one of the same address
-put-keeps : (s : Station) → Kept s → (b : ℕ) (y : Target) → y .address ≡ b → InReach (s .setup .reach) y → (t : Targets) → targetsOf t ≡ set (targetsOf (s .targets)) (placeIn (targetsOf (s .targets)) b) y → Reaching (s .setup .reach) t × Waiting-for t (s .waiting)
-put-keeps s h b y same p t e = (
-  subst (λ (v : List Target). All (InReach (s .setup .reach)) v) (sym e) (all-set (InReach (s .setup .reach)) (targetsOf (s .targets)) (placeIn (targetsOf (s .targets)) b) y p (h .reach)),
-  all-map (Waits (s .targets)) (Waits t) (λ q k. (k .0, ap (has (q .address)) e ∙ has-put (q .address) b y same (targetsOf (s .targets)) ∙ k .1)) (requestsOf (s .waiting)) (h .waiting),
-)
+put-stays : (t u : Targets) (b : ℕ) (y : Target) → y .address ≡ b → targetsOf u ≡ set (targetsOf t) (placeIn (targetsOf t) b) y → Stays t u
+put-stays t u b y same e a k = ap (has a) e ∙ has-put a b y same (targetsOf t) ∙ k
+
+put-reaches : (R : ℕ) (t u : Targets) (b : ℕ) (y : Target) → InReach R y → targetsOf u ≡ set (targetsOf t) (placeIn (targetsOf t) b) y → Reaching R t → Reaching R u
+put-reaches R t u b y p e h = subst (λ (v : List Target). All (InReach R) v) (sym e) (all-set (InReach R) (targetsOf t) (placeIn (targetsOf t) b) y p h)
 
 pub said-address : (f v : ℕ) (t : Target) → saidIn f v t .address ≡ t .address
 said-address f v t = go (holdsID f)
@@ -126,17 +137,18 @@ said-reach R f v t h = go (holdsID f)
 abbrev pub heardList : Request → ℕ → Targets → List Target
 heardList q v t = set (targetsOf t) (placeIn (targetsOf t) (q .address)) (saidIn (expected q) v (targetAt (q .address) t))
 
-heard-keeps : (s : Station) → Kept s → (q : Request) (v : ℕ) → Reaching (s .setup .reach) (targetsHeard q v (s .targets)) × Waiting-for (targetsHeard q v (s .targets)) (s .waiting)
+heard-keeps : (R : ℕ) (q : Request) (v : ℕ) (t : Targets) → Reaching R t → Reaching R (targetsHeard q v t) × Stays t (targetsHeard q v t)
 unfolding targetsHeard
-heard-keeps s h q v = go (inList (q .address) (s .targets)) refl
+heard-keeps R q v t h = go (inList (q .address) t) refl
   where
-    go : (b : Bool) → inList (q .address) (s .targets) ≡ b → Reaching (s .setup .reach) (pick b (targetsAs (heardList q v (s .targets)) (s .targets)) (s .targets)) × Waiting-for (pick b (targetsAs (heardList q v (s .targets)) (s .targets)) (s .targets)) (s .waiting)
+    go : (b : Bool) → inList (q .address) t ≡ b → Reaching R (pick b (targetsAs (heardList q v t) t) t) × Stays t (pick b (targetsAs (heardList q v t) t) t)
     go true e =
-        put-keeps s h (q .address) (saidIn (expected q) v (targetAt (q .address) (s .targets)))
-        (said-address (expected q) v (targetAt (q .address) (s .targets)) ∙ address-of (q .address) (targetsOf (s .targets)) e)
-        (said-reach (s .setup .reach) (expected q) v (targetAt (q .address) (s .targets)) (all-look (InReach (s .setup .reach)) (q .address) (targetsOf (s .targets)) (h .reach) e))
-        (targetsAs (heardList q v (s .targets)) (s .targets)) (targets-are (heardList q v (s .targets)) (s .targets))
-    go false e = (h .reach, h .waiting)
+        let y = saidIn (expected q) v (targetAt (q .address) t) in
+        let l = targets-are (heardList q v t) t in (
+          put-reaches R t (targetsAs (heardList q v t) t) (q .address) y (said-reach R (expected q) v (targetAt (q .address) t) (all-look (InReach R) (q .address) (targetsOf t) h e)) l h,
+          put-stays t (targetsAs (heardList q v t) t) (q .address) y (said-address (expected q) v (targetAt (q .address) t) ∙ address-of (q .address) (targetsOf t) e) l,
+        )
+    go false e = (h, λ a k. k)
 
 -- ---- planning
 -- every waiting request, with near and far of its target, is what the planner wants
@@ -163,15 +175,14 @@ pub plan-leaves : (s : Station) (tag : ℕ) → requestsOf (nextPlan s tag .wait
 unfolding nextPlan
 plan-leaves s tag = take-over (map requestOf (boardFor s .waiting)) (s .waiting .list)
 
-left-waits : (s : Station) (tag : ℕ) → Kept s → Waiting-for (targetsOlder (s .targets)) (nextPlan s tag .waiting)
+older-stays : (t : Targets) → Stays t (targetsOlder t)
+older-stays t a k = ap (has a) (targets-are (map older (targetsOf t)) t) ∙ has-map a older (λ x. refl) (targetsOf t) ∙ k
+
+left-waits : (s : Station) (tag : ℕ) → Kept s → Waiting-for (s .targets) (nextPlan s tag .waiting)
 unfolding boardFor
 left-waits s tag h =
-    let e = targets-are (map older (targetsOf (s .targets))) (s .targets) in
-    subst (All (Waits (targetsOlder (s .targets)))) (sym (plan-leaves s tag))
-    (all-image requestOf (Was s) (Waits (targetsOlder (s .targets)))
-    (λ a k. (k .0, ap (has (a .request .address)) e ∙ has-map (a .request .address) older (λ t. refl) (targetsOf (s .targets)) ∙ k .1))
-    (boardFor s .waiting)
-    (left-each (s .setup) (h .shares) (asked s) (Was s) (were s h)))
+    subst (All (Waits (s .targets))) (sym (plan-leaves s tag))
+    (all-image requestOf (Was s) (Waits (s .targets)) (λ a k. k) (boardFor s .waiting) (left-each (s .setup) (h .shares) (asked s) (Was s) (were s h)))
 
 -- a plan leaves no unit with more than it had waiting
 left-fewer : (s : Station) (tag : ℕ) → Kept s → (u : ℕ) → countOf (isOf u) (requestsOf (nextPlan s tag .waiting)) ≤ countOf (isOf u) (requestsOf (s .waiting))
@@ -182,13 +193,20 @@ left-fewer s tag h u =
     let r = count-image (askFor (s .targets)) (λ (a : Ask). isOf u (a .request)) (requestsOf (s .waiting)) in
     omega (arith, n, l, r)
 
-placed-taken : (s : Station) (tag : ℕ) → Kept s → Taken (nextPlan s tag .plan)
+-- each entry of a plan is of a request that waited: the planner makes up none
+abbrev waited : Station → Ask → Bool
+waited s a = requestRanged (a .request) && inList (a .request .address) (s .targets)
+
+placed-entered : (s : Station) (tag : ℕ) → Kept s → Entries (s .targets) (nextPlan s tag .plan)
 unfolding boardFor
-placed-taken s tag h =
-    let n = demand3 (s .setup) (h .shares) (asked s) (proper s h) .noneLost (λ (a : Ask). not (requestRanged (a .request))) in
-    let w = none-fail (λ (a : Ask). requestRanged (a .request)) (asked s) (all-map (Was s) (λ (a : Ask). requestRanged (a .request) ≡ true) (λ a k. k .0) (asked s) (were s h)) in
-    subst (All (λ (e : Entry). requestRanged (e .ask .request) ≡ true)) (sym (plan-shows s tag))
-    (all-pass (λ (e : Entry). requestRanged (e .ask .request)) (boardFor s .placed) (omega (arith, n, w)))
+placed-entered s tag h =
+    let n = demand3 (s .setup) (h .shares) (asked s) (proper s h) .noneLost (λ (a : Ask). not (waited s a)) in
+    let w = none-fail (waited s) (asked s) (all-map (Was s) (λ (a : Ask). waited s a ≡ true) (λ a k. and-yes (requestRanged (a .request)) (inList (a .request .address) (s .targets)) (k .0) (k .1)) (asked s) (were s h)) in
+    subst (All (Entered (s .targets))) (sym (plan-shows s tag))
+    (all-map (λ (e : Entry). waited s (e .ask) ≡ true) (Entered (s .targets))
+    (λ e k. (and-left (requestRanged (e .ask .request)) (inList (e .ask .request .address) (s .targets)) k, λ _. and-right (requestRanged (e .ask .request)) (inList (e .ask .request .address) (s .targets)) k))
+    (boardFor s .placed)
+    (all-pass (λ (e : Entry). waited s (e .ask)) (boardFor s .placed) (omega (arith, n, w))))
 
 planned-keeps : (s : Station) (tag : ℕ) → Kept s → Kept (nextPlan s tag)
 unfolding nextPlan
@@ -196,9 +214,9 @@ planned-keeps s tag h =
     record {
       shares = h .shares;
       reach = rw (targets-are (map older (targetsOf (s .targets))) (s .targets)) (all-image older (InReach (s .setup .reach)) (InReach (s .setup .reach)) (λ t k. k) (targetsOf (s .targets)) (h .reach));
-      waiting = left-waits s tag h;
+      waiting = waits-on (s .targets) (targetsOlder (s .targets)) (nextPlan s tag .waiting) (older-stays (s .targets)) (left-waits s tag h);
       sixteen = λ u. omega (arith, left-fewer s tag h u, h .sixteen u);
-      entries = placed-taken s tag h;
+      entries = entries-on (s .targets) (targetsOlder (s .targets)) (nextPlan s tag .plan) (older-stays (s .targets)) (placed-entered s tag h);
     }
 
 -- ---- a request taken
@@ -223,6 +241,19 @@ asked-keeps s q h g f n w e = (
 )
 
 -- ---- a target removed
+-- an entry that is open afterwards is for another address, and was open before
+no-open : (m : Mark) → isOpen (markWithdrawn m) ≡ true → ⊥
+no-open Open e = false≢true e
+no-open Answered e = false≢true e
+no-open Withdrawn e = false≢true e
+
+still-held : (t : Targets) (a : ℕ) (e : Entry) → (isOpen (e .mark) ≡ true → inList (e .ask .request .address) t ≡ true) → isOpen (withdrawn a e .mark) ≡ true → has (e .ask .request .address) (filter (λ (x : Target). not (isAt a x)) (targetsOf t)) ≡ true
+still-held t a e k = go (eqb (e .ask .request .address) a) refl
+  where
+    go : (b : Bool) → eqb (e .ask .request .address) a ≡ b → isOpen (pick b (markWithdrawn (e .mark)) (e .mark)) ≡ true → has (e .ask .request .address) (filter (λ (x : Target). not (isAt a x)) (targetsOf t)) ≡ true
+    go true q o = absurd (no-open (e .mark) o)
+    go false q o = has-other (e .ask .request .address) a (targetsOf t) (eqb-false (e .ask .request .address) a q) ∙ k o
+
 without-keeps : (s : Station) (a : ℕ) → Kept s → Kept (without a s)
 unfolding without
 without-keeps s a h =
@@ -237,26 +268,35 @@ without-keeps s a h =
           (λ q p j. (j .0, ap (has (q .address)) t ∙ has-other (q .address) a (targetsOf (s .targets)) (eqb-false (q .address) a (not-true (eqb (q .address) a) p)) ∙ j .1))
           (requestsOf (s .waiting)) (h .waiting));
       sixteen = λ u. rw w (omega (arith, h .sixteen u, count-kept (isOf u) (λ (q : Request). not (eqb (q .address) a)) (requestsOf (s .waiting))));
-      entries = rw (entries-are (map (withdrawn a) (entriesOf (s .plan))) (s .plan)) (all-image (withdrawn a) (λ (e : Entry). requestRanged (e .ask .request) ≡ true) (λ (e : Entry). requestRanged (e .ask .request) ≡ true) (λ e k. k) (entriesOf (s .plan)) (h .entries));
+      entries =
+          rw (entries-are (map (withdrawn a) (entriesOf (s .plan))) (s .plan))
+          (all-image (withdrawn a) (Entered (s .targets)) _
+          (λ e k. (k .0, λ o. ap (has (e .ask .request .address)) t ∙ still-held (s .targets) a e (k .1) o))
+          (entriesOf (s .plan)) (h .entries));
     }
 
 -- ---- a reply taken
-set-same : (es : List Entry) (k : ℕ) (d e : Entry) → e .ask ≡ getD es k d .ask → All (λ (x : Entry). requestRanged (x .ask .request) ≡ true) es → All (λ (x : Entry). requestRanged (x .ask .request) ≡ true) (set es k e)
+set-entered : (t : Targets) (es : List Entry) (k : ℕ) (d : Entry) → All (Entered t) es → All (Entered t) (set es k (marked Answered (getD es k d)))
 unfolding All
-set-same [] k d e q h = tt
-set-same (x ∷ es) zero d e q h = (ap (λ (a : Ask). requestRanged (a .request)) q ∙ h .0, h .1)
-set-same (x ∷ es) (suc k) d e q h = (h .0, set-same es k d e q (h .1))
-
-answered-taken : (k : ℕ) (p : Plan) → Taken p → Taken (planAnswered k p)
-answered-taken k p h =
-    rw (entries-are (set (entriesOf p) k (marked Answered (getD (entriesOf p) k noEntry))) p)
-    (set-same (entriesOf p) k noEntry (marked Answered (getD (entriesOf p) k noEntry)) refl h)
+set-entered t [] k d h = tt
+set-entered t (x ∷ es) zero d h = ((h .0 .0, λ o. absurd (false≢true o)), h .1)
+set-entered t (x ∷ es) (suc k) d h = (h .0, set-entered t es k d (h .1))
 
 reply-keeps : (s : Station) (k : ℕ) (m : List ℕ) → Kept s → Kept (heard k m s)
 unfolding heard
 reply-keeps s k m h =
-    let j = heard-keeps s h (entryNumbered k s .ask .request) (valueIn m) in
-    record { shares = h .shares; reach = j .0; waiting = j .1; sixteen = h .sixteen; entries = answered-taken k (s .plan) (h .entries) }
+    let q = entryNumbered k s .ask .request in
+    let j = heard-keeps (s .setup .reach) q (valueIn m) (s .targets) (h .reach) in
+    let t = targetsHeard q (valueIn m) (s .targets) in
+    record {
+      shares = h .shares;
+      reach = j .0;
+      waiting = waits-on (s .targets) t (s .waiting) (j .1) (h .waiting);
+      sixteen = h .sixteen;
+      entries =
+          entries-on (s .targets) t (planAnswered k (s .plan)) (j .1)
+          (rw (entries-are (set (entriesOf (s .plan)) k (marked Answered (getD (entriesOf (s .plan)) k noEntry))) (s .plan)) (set-entered (s .targets) (entriesOf (s .plan)) k noEntry (h .entries)));
+    }
 
 blank-accepted : judged (blank .setup) ≡ 0
 unfolding judged sharesFit emptied every total
@@ -268,22 +308,28 @@ kept-next s h c r (did-setup x a e) = subst (λ (x : Answer). Kept (x .station))
 kept-next s h c r (did-new a near far g f e) =
     subst (λ (x : Answer). Kept (x .station)) (sym e)
     (let k = targets-are (targetsOf (s .targets) ++ (fresh a near far ∷ [])) (s .targets) in
+    let j : Stays (s .targets) (targetsWith (fresh a near far) (s .targets)) = λ b i. ap (has b) k ∙ has-snoc b (targetsOf (s .targets)) (fresh a near far) ∙ (rw i) in
     record {
       shares = h .shares;
       reach = rw k (all-snoc (InReach (s .setup .reach)) (targetsOf (s .targets)) (fresh a near far) (h .reach) (reach-of a near far (s .setup .reach) g));
-      waiting =
-          all-map (Waits (s .targets)) _
-          (λ q j. (j .0, ap (has (q .address)) k ∙ has-snoc (q .address) (targetsOf (s .targets)) (fresh a near far) ∙ (rw (j .1))))
-          (requestsOf (s .waiting)) (h .waiting);
+      waiting = waits-on (s .targets) (targetsWith (fresh a near far) (s .targets)) (s .waiting) j (h .waiting);
       sixteen = h .sixteen;
-      entries = h .entries;
+      entries = entries-on (s .targets) (targetsWith (fresh a near far) (s .targets)) (s .plan) j (h .entries);
     })
 kept-next s h c r (did-remove a e) = subst (λ (x : Answer). Kept (x .station)) (sym e) (without-keeps s a h)
 kept-next s h c r (did-move a near far g f e) =
     subst (λ (x : Answer). Kept (x .station)) (sym e)
-    (let l = set (targetsOf (s .targets)) (placeIn (targetsOf (s .targets)) a) (edged near far (targetAt a (s .targets))) in
-    let k = put-keeps s h a (edged near far (targetAt a (s .targets))) (address-of a (targetsOf (s .targets)) f) (reach-of a near far (s .setup .reach) g) (targetsAs l (s .targets)) (targets-are l (s .targets)) in
-    record { shares = h .shares; reach = k .0; waiting = k .1; sixteen = h .sixteen; entries = h .entries })
+    (let y = edged near far (targetAt a (s .targets)) in
+    let u = targetsPut a y (s .targets) in
+    let l = targets-are (set (targetsOf (s .targets)) (placeIn (targetsOf (s .targets)) a) y) (s .targets) in
+    let j = put-stays (s .targets) u a y (address-of a (targetsOf (s .targets)) f) l in
+    record {
+      shares = h .shares;
+      reach = put-reaches (s .setup .reach) (s .targets) u a y (reach-of a near far (s .setup .reach) g) l (h .reach);
+      waiting = waits-on (s .targets) u (s .waiting) j (h .waiting);
+      sixteen = h .sixteen;
+      entries = entries-on (s .targets) u (s .plan) j (h .entries);
+    })
 kept-next s h c r (did-request q g f n e) =
     subst (λ (x : Answer). Kept (x .station)) (sym e)
     (let k = asked-keeps s q h g f n (waitingAs (requestsOf (s .waiting) ++ (q ∷ [])) (s .waiting)) (requests-are (requestsOf (s .waiting) ++ (q ∷ [])) (s .waiting)) in

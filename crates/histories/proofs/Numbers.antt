@@ -17,7 +17,6 @@ use Rattle.frames.specs.Building.{anAddress, selectiveRanged}
 use Rattle.frames.specs.Reading.{formatOf}
 use Rattle.frames.proofs.Ranges.{selective-in}
 use Rattle.planner.specs.declared.request.Request.{Request}
-use Rattle.planner.specs.declared.entry.Entry.{Entry}
 use Rattle.planner.specs.declared.shares.Setup.{Setup}
 use Rattle.planner.specs.Shares as shares
 use Rattle.histories.specs.declared.state.Station.{Station}
@@ -28,7 +27,7 @@ use Rattle.histories.specs.Calls as calls
 use Rattle.histories.specs.Replies.{expected, entryNumbered, isOpen, startOf, inWindow, ofFormat, Replied, refusedReply, settled, corrected, replied}
 use Rattle.histories.specs.History.{Call, setup, new, remove, move, request, plan, reply, report, answer, after}
 use Rattle.histories.specs.Numbers.{given, setupRanged, sharesGood, requestAt, replyChecks, checks}
-use Rattle.histories.specs.Kept.{Kept}
+use Rattle.histories.specs.Kept.{Entered, Kept}
 use Rattle.histories.proofs.Keeping.{always-kept, unit-of, six}
 
 -- ---- a setup
@@ -98,7 +97,7 @@ address-in q e =
 -- the overlay of an entry and the station's limit are in their ranges
 overlay-in : (s : Station) → Kept s → (k : ℕ) → k < length (entriesOf (s .plan)) → ranged (requestAt k s .address) (s .setup .limit) ≡ true
 overlay-in s h k l =
-    let r = all-at (λ (e : Entry). calls.requestRanged (e .ask .request) ≡ true) (entriesOf (s .plan)) noEntry k (h .entries) l in
+    let r = all-at (Entered (s .targets)) (entriesOf (s .plan)) noEntry k (h .entries) l .0 in
     let a = address-in (requestAt k s) r in
     and-yes (ltb (requestAt k s .address) 0x1000000) (leb (s .setup .limit) 12) (lt-ltb (requestAt k s .address) 0x1000000 (omega (arith, a))) (le-leb (s .setup .limit) 12 (limit-in (s .setup) (h .shares)))
 

@@ -11,6 +11,7 @@ use Rattle.histories.specs.declared.state.Targets.{Targets}
 use Rattle.histories.specs.declared.state.Station.{Station}
 use Rattle.histories.specs.State.{targetsOf, requestsOf, entriesOf, inList, isOf}
 use Rattle.histories.specs.Calls.{requestRanged}
+use Rattle.histories.specs.Replies.{isOpen}
 
 -- "near ≤ far ≤ R"
 abbrev pub InReach : ℕ → Target → Type 0
@@ -20,11 +21,15 @@ InReach R t = (t .near ≤ t .far) × (t .far ≤ R)
 abbrev pub Waits : Targets → Request → Type 0
 Waits t q = (requestRanged q ≡ true) × (inList (q .address) t ≡ true)
 
+-- an entry is of a request that was taken, and while it is open its target is held
+abbrev pub Entered : Targets → Entry → Type 0
+Entered t e = (requestRanged (e .ask .request) ≡ true) × (isOpen (e .mark) ≡ true → inList (e .ask .request .address) t ≡ true)
+
 -- the setup was accepted, as that before any setup would be; every target is in reach; every waiting request has its target; no unit has more than 16
--- waiting; and every entry is of a request that was taken
+-- waiting; and every entry is of a request that was taken, its target held while it is open
 pub record Kept (s : Station) : Type 0 where
   pub shares : judged (s .setup) ≡ 0
   pub reach : All (InReach (s .setup .reach)) (targetsOf (s .targets))
   pub waiting : All (Waits (s .targets)) (requestsOf (s .waiting))
   pub sixteen : (u : ℕ) → countOf (isOf u) (requestsOf (s .waiting)) ≤ 16
-  pub entries : All (λ (e : Entry). requestRanged (e .ask .request) ≡ true) (entriesOf (s .plan))
+  pub entries : All (Entered (s .targets)) (entriesOf (s .plan))
