@@ -1,0 +1,48 @@
+-- Lines of document 01, computed: the first plan line of case P1, a report of nothing heard, and the edges of the rules.
+use mathlib.Core.Path.{_≡_, refl}
+use mathlib.Core.Bool.{true, false}
+use lib.IntN.{negsuc}
+use Rattle.text.specs.Put.{decimalIn, decimal}
+use Rattle.text.specs.Signed.{signedDecimal}
+use Rattle.text.specs.Plain.{plain}
+use Rattle.planner.specs.declared.request.Ask.{Ask}
+use Rattle.planner.specs.Exchange.{sentFor, replyFor, entryAt}
+use Rattle.stream.specs.declared.report.Value.{Value}
+use Rattle.stream.specs.Lines.{line, answerLine, replyLine, entryLine, heardWord, reportLine}
+
+-- case P1: unit 0 asks address 1 with UF 20 and RR 16; near 2000, far 2010
+abbrev asked : Ask
+asked =
+    record {
+      request = record { unit = 0; address = 1; uf = 20; pc = 0; rr = 16; di = 0; sd = 0; ma = 0 };
+      near = 2000;
+      far = 2010;
+    }
+
+first-entry : entryLine 0 (entryAt asked 0) ≡ plain "0 0 1 0 2530 3022\n"
+unfolding entryLine line decimal decimalIn sentFor replyFor
+first-entry = refl
+
+first-record : answerLine 1 1 0 ≡ plain "1 1 0\n"
+unfolding answerLine line decimal decimalIn
+first-record = refl
+
+-- a delay may be −1
+early-reply : replyLine 12 7 3 (negsuc 0) ≡ plain "12 7 0 3 -1\n"
+unfolding replyLine line decimal decimalIn signedDecimal
+early-reply = refl
+
+abbrev never : Value
+never = record { heard = false; value = 0; age = 0 }
+
+-- an AC of 0 that was heard at the last plan
+abbrev zero-heard : Value
+zero-heard = record { heard = true; value = 0; age = 0 }
+
+nothing-heard : reportLine never never ≡ plain "- - - -\n"
+unfolding reportLine line heardWord
+nothing-heard = refl
+
+heard-zero : reportLine zero-heard never ≡ plain "0 0 - -\n"
+unfolding reportLine line heardWord decimal decimalIn
+heard-zero = refl

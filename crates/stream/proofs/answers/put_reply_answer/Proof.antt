@@ -1,0 +1,46 @@
+-- `put_reply_answer` lays four numbers and the delay with its sign.
+use mir.Syntax.{w32}
+use mir.ValLaws.{toZ-ofZ}
+use Rattle.text.proofs.Laid.{put-then}
+use Rattle.stream.specs.Lines.{line, replyLine}
+use borrow.Author.Needs.{needs}
+use Rattle.stream.proofs.answers.put_reply_answer.Statement.{statement}
+use Rattle.stream.proofs.answers.put_reply_answer.Tie as tie
+
+put-number-requires : tie.Need-put-number-requires
+put-number-requires c κs = search needs
+
+put-number-requires-2 : tie.Need-put-number-requires-2
+put-number-requires-2 c κs = search needs
+
+put-number-requires-3 : tie.Need-put-number-requires-3
+put-number-requires-3 c κs = search needs
+
+put-number-requires-4 : tie.Need-put-number-requires-4
+put-number-requires-4 c κs = search needs
+
+put-signed-requires : tie.Need-put-signed-requires
+put-signed-requires c κs = search needs
+
+put-byte-requires : tie.Need-put-byte-requires
+put-byte-requires c κs = search needs
+
+same-length : tie.Need-same-length
+same-length c = search needs
+
+returns : tie.Need-returns
+unfolding line replyLine
+returns c = put-then (c .before .before .before .before .before .before .before .before .before .before .before .before .before .before .before .before .before .before .before .before .before .before .put-number .ensures) (put-then (c .before .before .before .before .before .before .before .before .before .before .before .before .before .before .before .before .before .before .put-number2 .ensures) (put-then (c .before .before .before .before .before .before .before .before .before .before .before .before .before .before .put-number3 .ensures) (put-then (c .before .before .before .before .before .before .before .before .before .before .put-number4 .ensures) (put-then (rw (toZ-ofZ w32 _ (c .before .before .before .before .before .before .before .before .before .before .before .before .before .before .before .before .before .before .before .before .before .before .before .before .before .fits .delay)) at (c .before .before .before .before .before .before .put-signed .ensures)) (c .before .before .put-byte .ensures)))))
+
+pub put-reply-answer-spec : {M : Type 1} → statement M
+put-reply-answer-spec =
+    tie.close
+    (tie.spec
+    put-number-requires
+    put-number-requires-2
+    put-number-requires-3
+    put-number-requires-4
+    put-signed-requires
+    put-byte-requires
+    same-length
+    returns)

@@ -1,0 +1,2 @@
+-- The definitions: the lines that records print.
+pub mod Lines

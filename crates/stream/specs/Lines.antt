@@ -1,0 +1,60 @@
+-- The lines that records print: decimal numbers parted by single spaces, each line ended by a newline.
+use Prim.Native.Nat.{ℕ, suc}
+use mathlib.Core.Bool.{Bool}
+use mathlib.Core.List.{List, [], _∷_, _++_}
+use lib.IntN.{ℤ}
+use Rattle.lists.specs.Lists.{pick}
+use Rattle.text.specs.Put.{decimal}
+use Rattle.text.specs.Signed.{signedDecimal}
+use Rattle.planner.specs.declared.entry.Entry.{Entry}
+use Rattle.planner.specs.Exchange.{listens}
+use Rattle.stream.specs.declared.report.Value.{Value}
+
+-- a word and the byte behind it
+abbrev pub followed : List ℕ → ℕ → List ℕ
+followed w b = w ++ (b ∷ [])
+
+-- words parted by single spaces (32), and the newline (10)
+unfoldable pub line : List (List ℕ) → List ℕ
+line [] = 10 ∷ []
+line (w ∷ []) = followed w 10
+line (w ∷ v ∷ ws) = followed w 32 ++ line (v ∷ ws)
+
+-- number, kind, answer
+unfoldable pub answerLine : ℕ → ℕ → ℕ → List ℕ
+answerLine n kind answer = line (decimal n ∷ decimal kind ∷ decimal answer ∷ [])
+
+-- a taken reply adds flips and delay
+unfoldable pub replyLine : ℕ → ℕ → ℕ → ℤ → List ℕ
+replyLine n kind flips delay = line (decimal n ∷ decimal kind ∷ decimal 0 ∷ decimal flips ∷ signedDecimal delay ∷ [])
+
+-- entry, unit, address, start, window start, window end
+unfoldable pub entryLine : ℕ → Entry → List ℕ
+entryLine k e =
+    line
+    (decimal k
+    ∷ decimal (e .ask .request .unit)
+    ∷ decimal (e .ask .request .address)
+    ∷ decimal (e .start)
+    ∷ decimal (listens e .lo)
+    ∷ decimal (listens e .hi)
+    ∷ [])
+
+-- the entries from number k on, a line each
+unfoldable pub entryLines : ℕ → List Entry → List ℕ
+entryLines k [] = []
+entryLines k (e ∷ es) = entryLine k e ++ entryLines (suc k) es
+
+-- a number of what was heard, and "-" where it was never heard
+unfoldable pub heardWord : Bool → ℕ → List ℕ
+heardWord heard x = pick heard (decimal x) (45 ∷ [])
+
+-- AC, its age, ID, its age
+unfoldable pub reportLine : Value → Value → List ℕ
+reportLine ac id =
+    line
+    (heardWord (ac .heard) (ac .value)
+    ∷ heardWord (ac .heard) (ac .age)
+    ∷ heardWord (id .heard) (id .value)
+    ∷ heardWord (id .heard) (id .age)
+    ∷ [])

@@ -1,0 +1,34 @@
+// The line that every record prints: number, kind, answer.
+ghost use Rattle.text.specs.Put.{Put};
+ghost use Rattle.stream.specs.Lines.{answerLine, replyLine};
+use crate::words::NEWLINE;
+use crate::words::SPACE;
+use crate::words::put_number;
+
+// Number, kind, answer.
+pub fn put_answer(out: &mut [u8], at: usize, n: u32, kind: u8, answer: u8) -> usize
+    ensures { λ r. ⌜ Put (answerLine n kind answer) at (now (out .entry)) (now (out .exit)) r ⌝ }
+{
+    let at_kind = put_number(out, at, n, SPACE);
+    let at_answer = put_number(out, at_kind, kind as u32, SPACE);
+    put_number(out, at_answer, answer as u32, NEWLINE)
+}
+
+// Number, kind and answer 0 of a taken reply, then its flips and delay.
+pub fn put_reply_answer(
+    out: &mut [u8],
+    at: usize,
+    n: u32,
+    kind: u8,
+    flips: u32,
+    delay: i32,
+) -> usize
+    ensures { λ r. ⌜ Put (replyLine n kind flips delay) at (now (out .entry)) (now (out .exit)) r ⌝ }
+{
+    let at_kind = put_number(out, at, n, SPACE);
+    let at_answer = put_number(out, at_kind, kind as u32, SPACE);
+    let at_flips = put_number(out, at_answer, 0, SPACE);
+    let at_delay = put_number(out, at_flips, flips, SPACE);
+    let end = text::put_signed(out, at_delay, delay);
+    text::put_byte(out, end, NEWLINE)
+}
