@@ -12,6 +12,7 @@ use Rattle.text.specs.Signed.{signedDecimal}
 use Rattle.text.proofs.Decimal.{decimal-fits}
 use Rattle.planner.specs.declared.entry.Entry.{Entry}
 use Rattle.planner.specs.Exchange.{listens}
+use Rattle.planner.proofs.Clear.{reply-small}
 use Rattle.stream.specs.declared.report.Value.{Value}
 use Rattle.stream.specs.Lines.{line, answerLine, replyLine, entryLine, entryLines, heardWord, reportLine}
 
@@ -56,6 +57,12 @@ pub record Printable (e : Entry) : Type 0 where
   pub start : e .start < 2 ^ 32
   pub opens : listens e .lo < 2 ^ 32
   pub ends : listens e .hi < 2 ^ 32
+
+-- so they have when the fields have the bits of their types
+pub printable-of : (e : Entry) → e .ask .request .unit < 256 → e .ask .request .address < 2 ^ 32 → e .start < 65536 → e .ask .near < 65536 → e .ask .far < 65536 → Printable e
+printable-of e u a s n f =
+    let r = reply-small (e .ask .request .rr) in
+    record { unit = omega arith; address = a; start = omega arith; opens = omega arith; ends = omega (arith, r) }
 
 pub entry-length : (k : ℕ) (e : Entry) → k < 2 ^ 32 → Printable e → length (entryLine k e) ≤ 72
 unfolding entryLine All
