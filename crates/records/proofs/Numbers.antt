@@ -25,8 +25,9 @@ number-more s at from i n b e h = rw (add-one, e, h, add-assoc at from i)
 pub number-below : (n i b : ℕ) → n < 256 ^ i → b < 256 → n * 256 + b < 256 ^ (i + 1)
 number-below n i b h k = rw (add-one, pow-suc) (omega arith)
 
-pub eight-bytes : (i : ℕ) → i ≤ 8 → 256 ^ i ≤ 2 ^ 64
-eight-bytes i h = pow-le-pow-right (omega arith) h
+-- a number of fewer bytes is not above those of more
+pub bytes-below : (i m : ℕ) → i ≤ m → 256 ^ i ≤ 256 ^ m
+bytes-below i m h = pow-le-pow-right (omega arith) h
 
 -- ---- a byte at the place r, the place p or the end of the stream
 

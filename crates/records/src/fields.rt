@@ -34,20 +34,12 @@ fn short_at(s: &[u8], at: usize, from: usize) -> u16
     number_at(s, at, from, 2) as u16
 }
 
-// The number of three bytes.
-fn three_at(s: &[u8], at: usize, from: usize) -> u32
-    requires { ⌜ from ≤ 32 ⌝ }
-    ensures { λ r. ⌜ r ≡ numberAt (now (s .entry)) (at + from) 3 ⌝ }
+// The number of k bytes, at most four.
+fn long_at(s: &[u8], at: usize, from: usize, k: usize) -> u32
+    requires { ⌜ (from ≤ 32) × (k ≤ 4) ⌝ }
+    ensures { λ r. ⌜ r ≡ numberAt (now (s .entry)) (at + from) k ⌝ }
 {
-    number_at(s, at, from, 3) as u32
-}
-
-// The number of four bytes.
-fn four_at(s: &[u8], at: usize, from: usize) -> u32
-    requires { ⌜ from ≤ 32 ⌝ }
-    ensures { λ r. ⌜ r ≡ numberAt (now (s .entry)) (at + from) 4 ⌝ }
-{
-    number_at(s, at, from, 4) as u32
+    number_at(s, at, from, k) as u32
 }
 
 // Eight bytes, one for each unit.
@@ -87,7 +79,7 @@ pub fn edges_at(s: &[u8], at: usize) -> Edges
     ensures { λ r. ⌜ r ≡ edgesAt (now (s .entry)) at ⌝ }
 {
     Edges {
-        address: three_at(s, at, 0),
+        address: long_at(s, at, 0, 3),
         near: short_at(s, at, 3),
         far: short_at(s, at, 5),
     }
@@ -97,7 +89,7 @@ pub fn edges_at(s: &[u8], at: usize) -> Edges
 pub fn address_at(s: &[u8], at: usize) -> u32
     ensures { λ r. ⌜ r ≡ addressAt (now (s .entry)) at ⌝ }
 {
-    three_at(s, at, 0)
+    long_at(s, at, 0, 3)
 }
 
 // Kind 4: a request.
@@ -106,7 +98,7 @@ pub fn request_at(s: &[u8], at: usize) -> Request
 {
     Request {
         unit: byte_at(s, at, 0),
-        address: three_at(s, at, 1),
+        address: long_at(s, at, 1, 3),
         uf: byte_at(s, at, 4),
         pc: byte_at(s, at, 5),
         rr: byte_at(s, at, 6),
@@ -120,7 +112,7 @@ pub fn request_at(s: &[u8], at: usize) -> Request
 pub fn tag_at(s: &[u8], at: usize) -> u32
     ensures { λ r. ⌜ r ≡ tagAt (now (s .entry)) at ⌝ }
 {
-    four_at(s, at, 0)
+    long_at(s, at, 0, 4)
 }
 
 // Kinds 6 and 7: a reply.
@@ -130,7 +122,7 @@ pub fn reply_at(s: &[u8], kind: u8, at: usize) -> Reply
     let n = message_length(kind);
     Reply {
         entry: byte_at(s, at, 0),
-        tag: four_at(s, at, 1),
+        tag: long_at(s, at, 1, 4),
         message: place_after(s, at, 5),
         marks: place_after(s, at, 5 + n),
         end: place_after(s, at, 5 + n + n),

@@ -5,13 +5,13 @@ use borrow.Author.Needs.{needs}
 use Rattle.records.proofs.fields.address_at.Statement.{statement}
 use Rattle.records.proofs.fields.address_at.Tie as tie
 
-three-at-requires : tie.Need-three-at-requires
-three-at-requires c κs = search needs
+long-at-requires : tie.Need-long-at-requires
+long-at-requires c κs = search needs
 
 returns : tie.Need-returns
 returns c =
     let a = c .before .before .args in
-    c .three-at .ensures ∙ number-here (a .s .now) (a .at) 3
+    c .long-at .ensures ∙ number-here (a .s .now) (a .at) 3
 
 pub address-at-spec : {M : Type 1} → statement M
-address-at-spec = tie.close (tie.spec three-at-requires returns)
+address-at-spec = tie.close (tie.spec long-at-requires returns)

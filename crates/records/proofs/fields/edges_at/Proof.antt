@@ -5,8 +5,8 @@ use borrow.Author.Needs.{needs}
 use Rattle.records.proofs.fields.edges_at.Statement.{statement}
 use Rattle.records.proofs.fields.edges_at.Tie as tie
 
-three-at-requires : tie.Need-three-at-requires
-three-at-requires c κs = search needs
+long-at-requires : tie.Need-long-at-requires
+long-at-requires c κs = search needs
 
 short-at-requires : tie.Need-short-at-requires
 short-at-requires c κs = search needs
@@ -17,8 +17,8 @@ short-at-requires-2 c κs = search needs
 returns : tie.Need-returns
 returns c =
     let a = c .before .before .before .before .args in
-    rw (c .before .before .three-at .ensures ∙ number-here (a .s .now) (a .at) 3, c .before .short-at .ensures, c .short-at2 .ensures)
+    rw (c .before .before .long-at .ensures ∙ number-here (a .s .now) (a .at) 3, c .before .short-at .ensures, c .short-at2 .ensures)
 
 pub edges-at-spec : {M : Type 1} → statement M
 edges-at-spec =
-    tie.close (tie.spec three-at-requires short-at-requires short-at-requires-2 returns)
+    tie.close (tie.spec long-at-requires short-at-requires short-at-requires-2 returns)

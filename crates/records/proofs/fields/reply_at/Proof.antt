@@ -11,8 +11,8 @@ message-length-requires c κs = search needs
 byte-at-requires : tie.Need-byte-at-requires
 byte-at-requires c κs = search needs
 
-four-at-requires : tie.Need-four-at-requires
-four-at-requires c κs = search needs
+long-at-requires : tie.Need-long-at-requires
+long-at-requires c κs = search needs
 
 place-after-requires : tie.Need-place-after-requires
 place-after-requires c κs = search needs
@@ -36,7 +36,7 @@ returns : tie.Need-returns
 returns c =
     let a = c .before .before .before .before .before .before .before .args in
     let n = c .before .before .before .before .before .message-length .ensures .0 in
-    rw (c .before .before .before .before .byte-at .ensures ∙ byte-here (a .s .now) (a .at), c .before .before .before .four-at .ensures, c .before .before .place-after .ensures, c .before .place-after2 .ensures, c .place-after3 .ensures, n)
+    rw (c .before .before .before .before .byte-at .ensures ∙ byte-here (a .s .now) (a .at), c .before .before .before .long-at .ensures, c .before .before .place-after .ensures, c .before .place-after2 .ensures, c .place-after3 .ensures, n)
 
 pub reply-at-spec : {M : Type 1} → statement M
 reply-at-spec =
@@ -44,7 +44,7 @@ reply-at-spec =
     (tie.spec
     message-length-requires
     byte-at-requires
-    four-at-requires
+    long-at-requires
     place-after-requires
     add-place-after
     place-after-requires-2

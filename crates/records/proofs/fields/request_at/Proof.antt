@@ -8,8 +8,8 @@ use Rattle.records.proofs.fields.request_at.Tie as tie
 byte-at-requires : tie.Need-byte-at-requires
 byte-at-requires c κs = search needs
 
-three-at-requires : tie.Need-three-at-requires
-three-at-requires c κs = search needs
+long-at-requires : tie.Need-long-at-requires
+long-at-requires c κs = search needs
 
 byte-at-requires-2 : tie.Need-byte-at-requires-2
 byte-at-requires-2 c κs = search needs
@@ -32,14 +32,14 @@ number-at-requires c κs = search needs
 returns : tie.Need-returns
 returns c =
     let a = c .before .before .before .before .before .before .before .before .before .args in
-    rw (c .before .before .before .before .before .before .before .byte-at .ensures ∙ byte-here (a .s .now) (a .at), c .before .before .before .before .before .before .three-at .ensures, c .before .before .before .before .before .byte-at2 .ensures, c .before .before .before .before .byte-at3 .ensures, c .before .before .before .byte-at4 .ensures, c .before .before .byte-at5 .ensures, c .before .short-at .ensures, c .number-at .ensures .0)
+    rw (c .before .before .before .before .before .before .before .byte-at .ensures ∙ byte-here (a .s .now) (a .at), c .before .before .before .before .before .before .long-at .ensures, c .before .before .before .before .before .byte-at2 .ensures, c .before .before .before .before .byte-at3 .ensures, c .before .before .before .byte-at4 .ensures, c .before .before .byte-at5 .ensures, c .before .short-at .ensures, c .number-at .ensures .0)
 
 pub request-at-spec : {M : Type 1} → statement M
 request-at-spec =
     tie.close
     (tie.spec
     byte-at-requires
-    three-at-requires
+    long-at-requires
     byte-at-requires-2
     byte-at-requires-3
     byte-at-requires-4

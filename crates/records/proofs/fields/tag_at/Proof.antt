@@ -5,13 +5,13 @@ use borrow.Author.Needs.{needs}
 use Rattle.records.proofs.fields.tag_at.Statement.{statement}
 use Rattle.records.proofs.fields.tag_at.Tie as tie
 
-four-at-requires : tie.Need-four-at-requires
-four-at-requires c κs = search needs
+long-at-requires : tie.Need-long-at-requires
+long-at-requires c κs = search needs
 
 returns : tie.Need-returns
 returns c =
     let a = c .before .before .args in
-    c .four-at .ensures ∙ number-here (a .s .now) (a .at) 4
+    c .long-at .ensures ∙ number-here (a .s .now) (a .at) 4
 
 pub tag-at-spec : {M : Type 1} → statement M
-tag-at-spec = tie.close (tie.spec four-at-requires returns)
+tag-at-spec = tie.close (tie.spec long-at-requires returns)

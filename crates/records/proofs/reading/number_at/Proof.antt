@@ -3,7 +3,7 @@ use Prim.Native.Nat.{_≤_, _<_, _-_, _+_, _^_}
 use mathlib.Core.Path.{_≡_, _∙_}
 use native.Mathlib.Omega.{arith}
 use Rattle.records.specs.Records.{numberAt}
-use Rattle.records.proofs.Numbers.{number-none, number-more, number-below, eight-bytes}
+use Rattle.records.proofs.Numbers.{number-none, number-more, number-below, bytes-below}
 use borrow.Author.Needs.{needs}
 use Rattle.records.proofs.reading.number_at.Statement.{statement}
 use Rattle.records.proofs.reading.number_at.Tie as tie
@@ -20,7 +20,7 @@ loop-holds c = (number-none _ _, omega arith, omega arith)
 mul-n : tie.Need-mul-n Inv-loop μ-loop
 mul-n c =
     let l = c .before .loop in
-    omega (arith, number-below (l .n) (l .i) 0 (l .inv .1) (omega arith), eight-bytes (l .i + 1) (omega arith))
+    omega (arith, number-below (l .n) (l .i) 0 (l .inv .1) (omega arith), bytes-below (l .i + 1) 8 (omega arith))
 
 add-byte-at : tie.Need-add-byte-at Inv-loop μ-loop
 add-byte-at c = search needs
@@ -34,7 +34,7 @@ wide-requires c κs = search needs
 add-n : tie.Need-add-n Inv-loop μ-loop
 add-n c =
     let l = c .before .before .before .loop in
-    omega (arith, number-below (l .n) (l .i) (c .wide .result) (l .inv .1) (c .wide .ensures .1), eight-bytes (l .i + 1) (omega arith))
+    omega (arith, number-below (l .n) (l .i) (c .wide .result) (l .inv .1) (c .wide .ensures .1), bytes-below (l .i + 1) 8 (omega arith))
 
 add-i : tie.Need-add-i Inv-loop μ-loop
 add-i c = search needs
