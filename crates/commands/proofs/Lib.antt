@@ -1,5 +1,4 @@
--- The laws of the crate: the texts from their parts, that each line's text fits, and the whole run.
+-- The laws of the crate: the texts from their parts, and that each line's text fits.
 pub mod Texts
 pub mod Frames
 pub mod Short
-pub mod Run

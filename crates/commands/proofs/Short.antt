@@ -1,4 +1,4 @@
--- Every line's text fits 512 bytes.
+-- The text of every line without a state fits 512 bytes.
 use Prim.Native.Nat.{ℕ, _+_, _≤_, _<_}
 use native.Mathlib.Omega.{arith}
 use mathlib.Core.Path.{_≡_, refl}
@@ -10,7 +10,7 @@ use lib.ListN.{length, take, drop, replicate, length-append, length-take, length
 use Rattle.lists.specs.Lists.{pick}
 use Rattle.text.specs.Put.{decimal}
 use Rattle.text.specs.Plain.{plain}
-use Rattle.text.specs.Line.{wordsOf, sameAs}
+use Rattle.text.specs.Line.{sameAs}
 use Rattle.text.specs.Number.{numberIn}
 use Rattle.text.specs.Hex.{hexIn, hexOf, bytesIn}
 use Rattle.text.specs.declared.answer.Number.{Number}
@@ -28,15 +28,17 @@ use Rattle.parity.specs.Overlays.{overlayOf, uplinkOverlay}
 use Rattle.parity.specs.Correction.{correction}
 use Rattle.parity.proofs.Sizes.{Small, outcome-small}
 use Rattle.frames.specs.Answers as frames
-use Rattle.frames.specs.Formats.{longFormat, listed}
+use Rattle.frames.specs.Bytes.{bytesOf, numberOf}
+use Rattle.frames.specs.Formats.{longFormat, surveillance, lengthOf, listed}
+use Rattle.frames.specs.Frames.{front, sealed, framed}
+use Rattle.frames.specs.Building.{selectiveRanged, allCallRanged, selective, allCall, building, allCalling}
 use Rattle.frames.specs.Codes.{stationRanged, whose, codeOf}
 use Rattle.frames.specs.Reading.{formatOf, readAs, allCallRead, selectiveRead, allCallReplyRead, surveillanceRead, mbPart}
-use Rattle.commands.specs.Texts.{unread, word, ofWords, withNumber, withBytes, doneText, refusalText, answerText}
+use Rattle.commands.specs.Texts.{unread, word, withNumber, withBytes, doneText, refusalText, answerText}
 use Rattle.commands.specs.Parity.{reckonedText, correctedText, remainderText, overlayText, fixedText, correctText}
+use Rattle.commands.specs.Building.{builtText, selectiveText, buildText, allCallText}
 use Rattle.commands.specs.Frames.{numberText, numbersText, fieldsText, endText, valuesText, readText, interrogationText, replyText, upText, downText, codeWord, whoseText, codeText}
 use Rattle.commands.specs.Feet.{feetText}
-use Rattle.commands.specs.Help.{wordsHelp, helpText}
-use Rattle.commands.specs.Console.{named, comment, commandText, wordsText, lineText}
 
 -- the size of the buffer that the program lends
 abbrev pub room : ℕ
@@ -44,18 +46,14 @@ room = 512
 
 -- ---- a text that is one of two, or stands behind a reading
 
-either-fits : (t : Bool) (a b : List ℕ) → length a ≤ room → length b ≤ room → length (pick t a b) ≤ room
+pub either-fits : (t : Bool) (a b : List ℕ) → length a ≤ room → length b ≤ room → length (pick t a b) ≤ room
 either-fits true a b h k = h
 either-fits false a b h k = k
 
-unread-fits : length unread ≤ room
+pub unread-fits : length unread ≤ room
 unread-fits = omega arith
 
-of-words-fits : (n : ℕ) (ws : List (List ℕ)) (t : List ℕ) → length t ≤ room → length (ofWords n ws t) ≤ room
-unfolding ofWords
-of-words-fits n ws t h = either-fits (eqb (length ws) n) t unread h unread-fits
-
-with-number-fits : (a : Number) (f : ℕ → List ℕ) → ((n : ℕ) → length (f n) ≤ room) → length (withNumber a f) ≤ room
+pub with-number-fits : (a : Number) (f : ℕ → List ℕ) → ((n : ℕ) → length (f n) ≤ room) → length (withNumber a f) ≤ room
 unfolding withNumber
 with-number-fits (Is n) f h = h n
 with-number-fits Not f h = unread-fits
@@ -65,12 +63,12 @@ unfolding withBytes
 bytes-by w (some bs) f e h = h bs (bytes-fit w bs e)
 bytes-by w none f e h = unread-fits
 
-with-bytes-fits : (w : List ℕ) (f : List ℕ → List ℕ) → ((bs : List ℕ) → length bs ≤ 32 → length (f bs) ≤ room) → length (withBytes (bytesIn w) f) ≤ room
+pub with-bytes-fits : (w : List ℕ) (f : List ℕ → List ℕ) → ((bs : List ℕ) → length bs ≤ 32 → length (f bs) ≤ room) → length (withBytes (bytesIn w) f) ≤ room
 with-bytes-fits w f h = bytes-by w (bytesIn w) f refl h
 
 -- ---- the text of an answer
 
-answer-fits : (n : ℕ) (v : List ℕ) → n ≤ 14 → length v ≤ 80 → length (answerText n v) ≤ room
+pub answer-fits : (n : ℕ) (v : List ℕ) → n ≤ 14 → length v ≤ 80 → length (answerText n v) ≤ room
 unfolding answerText doneText refusalText
 answer-fits n v h k =
     either-fits (eqb n 0) (plain "0 " ++ (v ++ plain "\n")) (decimal n ++ plain "\n")
@@ -182,76 +180,96 @@ unfolding whoseText codeOf
 whose-fits msg cl ic permit =
     answer-fits _ _ (code-number (whole (length msg)) (stationRanged cl ic permit) (eqb (length msg) 7 && eqb (formatOf msg) 11) (whose (remainderOf (bits msg)) cl ic permit)) (code-word-fits _)
 
+-- ---- a frame that is built
+
+frame-short : (n head mid overlay : ℕ) → length (framed n head mid overlay) ≤ 14
+unfolding front sealed
+frame-short n head mid overlay = go (eqb n 14) _
+  where
+    go : (t : Bool) (x : ℕ) → length ((bytesOf 4 head ++ pick t (bytesOf 7 mid) []) ++ bytesOf 3 x) ≤ 14
+    go true x = omega arith
+    go false x = omega arith
+
+lent-short : (t : Bool) → length (replicate {A = ℕ} (pick t 14 7) 0) ≤ 14
+lent-short true = omega arith
+lent-short false = omega arith
+
+-- an outcome of building: the frame, or a refusal that leaves the lent buffer
+built-fits : (t u v : Bool) (x l : List ℕ) → length x ≤ 14 → length l ≤ 14
+    → length (builtText (pick t (pick u (pick v (frames.written x) (frames.refused 2 l)) (frames.refused 1 l)) (frames.refused 2 l))) ≤ room
+unfolding builtText
+built-fits true true true x l h k = answer-fits 0 (hexOf x) (omega arith) (omega (arith, hex-of-length x))
+built-fits true true false x l h k = answer-fits 2 (hexOf l) (omega arith) (omega (arith, hex-of-length l))
+built-fits true false v x l h k = answer-fits 1 (hexOf l) (omega arith) (omega (arith, hex-of-length l))
+built-fits false u v x l h k = answer-fits 2 (hexOf l) (omega arith) (omega (arith, hex-of-length l))
+
+selective-fits : (uf pc rr di sd : ℕ) (ma : List ℕ) (address : ℕ) → length (selectiveText uf pc rr di sd ma address) ≤ room
+unfolding selectiveText building selective
+selective-fits uf pc rr di sd ma address =
+    built-fits (surveillance uf) (eqb (length (replicate {A = ℕ} (lengthOf uf) 0)) (lengthOf uf) && eqb (length ma) 7) (selectiveRanged uf pc rr di sd (numberOf ma) address)
+    (selective uf pc rr di sd (numberOf ma) address) (replicate (lengthOf uf) 0) (frame-short (lengthOf uf) _ _ _) (lent-short (longFormat uf))
+
+all-call-fits : (pr ic cl : ℕ) → length (builtText (allCalling pr ic cl (replicate 7 0))) ≤ room
+unfolding allCalling allCall
+all-call-fits pr ic cl = built-fits true true (allCallRanged pr ic cl) (allCall pr ic cl) (replicate 7 0) (frame-short 7 _ _ _) (omega arith)
+
 -- ---- the lines
 
 module _ (ws : List (List ℕ)) where
-  remainder-fits : length (remainderText ws) ≤ room
+  pub remainder-fits : length (remainderText ws) ≤ room
   unfolding remainderText
   remainder-fits =
-      of-words-fits 2 ws (withBytes (bytesIn (word 1 ws)) (λ msg. reckonedText (remainderAnswer msg)))
-      (with-bytes-fits (word 1 ws) (λ msg. reckonedText (remainderAnswer msg)) (λ msg h. reckoned-fits (whole (length msg)) (remainderOf (bits msg)) 1 (omega arith)))
+      with-bytes-fits (word 1 ws) (λ msg. reckonedText (remainderAnswer msg)) (λ msg h. reckoned-fits (whole (length msg)) (remainderOf (bits msg)) 1 (omega arith))
 
-  overlay-fits : length (overlayText ws) ≤ room
+  pub overlay-fits : length (overlayText ws) ≤ room
   unfolding overlayText
   overlay-fits =
-      of-words-fits 2 ws (withNumber (numberIn 10 (word 1 ws)) (λ address. reckonedText (uplinkOverlay address)))
-      (with-number-fits (numberIn 10 (word 1 ws)) (λ address. reckonedText (uplinkOverlay address))
-      (λ address. reckoned-fits (ltb address 0x1000000) (overlayOf address) 2 (omega arith)))
+      with-number-fits (numberIn 10 (word 1 ws)) (λ address. reckonedText (uplinkOverlay address))
+      (λ address. reckoned-fits (ltb address 0x1000000) (overlayOf address) 2 (omega arith))
 
-  correct-fits : length (correctText ws) ≤ room
+  pub correct-fits : length (correctText ws) ≤ room
   unfolding correctText
   correct-fits =
-      of-words-fits 5 ws _
-      (with-bytes-fits (word 1 ws) _ (λ msg h.
+      with-bytes-fits (word 1 ws) _ (λ msg h.
       with-bytes-fits (word 2 ws) _ (λ marks k.
       with-number-fits (numberIn 10 (word 3 ws)) _ (λ overlay.
-      with-number-fits (numberIn 10 (word 4 ws)) _ (λ limit. fixed-fits msg marks overlay limit h)))))
+      with-number-fits (numberIn 10 (word 4 ws)) _ (λ limit. fixed-fits msg marks overlay limit h))))
 
-  up-fits : length (upText ws) ≤ room
+  pub build-fits : length (buildText ws) ≤ room
+  unfolding buildText
+  build-fits =
+      with-number-fits (numberIn 10 (word 1 ws)) _ (λ uf.
+      with-number-fits (numberIn 10 (word 2 ws)) _ (λ pc.
+      with-number-fits (numberIn 10 (word 3 ws)) _ (λ rr.
+      with-number-fits (numberIn 10 (word 4 ws)) _ (λ di.
+      with-number-fits (numberIn 10 (word 5 ws)) _ (λ sd.
+      with-bytes-fits (word 6 ws) _ (λ ma h.
+      with-number-fits (numberIn 10 (word 7 ws)) _ (λ address. selective-fits uf pc rr di sd ma address)))))))
+
+  pub all-call-frame-fits : length (allCallText ws) ≤ room
+  unfolding allCallText
+  all-call-frame-fits =
+      with-number-fits (numberIn 10 (word 1 ws)) _ (λ pr.
+      with-number-fits (numberIn 10 (word 2 ws)) _ (λ ic.
+      with-number-fits (numberIn 10 (word 3 ws)) _ (λ cl. all-call-fits pr ic cl)))
+
+  pub up-fits : length (upText ws) ≤ room
   unfolding upText
-  up-fits = of-words-fits 2 ws (withBytes (bytesIn (word 1 ws)) interrogationText) (with-bytes-fits (word 1 ws) interrogationText (λ msg h. interrogation-fits msg))
+  up-fits = with-bytes-fits (word 1 ws) interrogationText (λ msg h. interrogation-fits msg)
 
-  down-fits : length (downText ws) ≤ room
+  pub down-fits : length (downText ws) ≤ room
   unfolding downText
-  down-fits = of-words-fits 2 ws (withBytes (bytesIn (word 1 ws)) replyText) (with-bytes-fits (word 1 ws) replyText (λ msg h. reply-fits msg))
+  down-fits = with-bytes-fits (word 1 ws) replyText (λ msg h. reply-fits msg)
 
-  code-fits : length (codeText ws) ≤ room
+  pub code-fits : length (codeText ws) ≤ room
   unfolding codeText
   code-fits =
-      of-words-fits 5 ws _
-      (with-bytes-fits (word 1 ws) _ (λ msg h.
+      with-bytes-fits (word 1 ws) _ (λ msg h.
       with-number-fits (numberIn 10 (word 2 ws)) _ (λ cl.
       with-number-fits (numberIn 10 (word 3 ws)) _ (λ ic.
-      with-number-fits (numberIn 10 (word 4 ws)) _ (λ permit. whose-fits msg cl ic permit)))))
+      with-number-fits (numberIn 10 (word 4 ws)) _ (λ permit. whose-fits msg cl ic permit))))
 
-  feet-fits : length (feetText ws) ≤ room
+  pub feet-fits : length (feetText ws) ≤ room
   unfolding feetText
   feet-fits =
-      of-words-fits 2 ws (withNumber (numberIn 10 (word 1 ws)) (λ ac. altitude-lines.answerText (altitude ac)))
-      (with-number-fits (numberIn 10 (word 1 ws)) (λ ac. altitude-lines.answerText (altitude ac)) (λ ac. omega (arith, answer-short ac)))
-
-  help-fits : length (helpText ws) ≤ room
-  unfolding helpText
-  help-fits = of-words-fits 1 ws wordsHelp (omega arith)
-
-  command-fits : length (commandText ws) ≤ room
-  unfolding commandText
-  command-fits =
-      either-fits (named "remainder" ws) (remainderText ws) _ remainder-fits
-      (either-fits (named "overlay" ws) (overlayText ws) _ overlay-fits
-      (either-fits (named "correct" ws) (correctText ws) _ correct-fits
-      (either-fits (named "up" ws) (upText ws) _ up-fits
-      (either-fits (named "down" ws) (downText ws) _ down-fits
-      (either-fits (named "code" ws) (codeText ws) _ code-fits
-      (either-fits (named "feet" ws) (feetText ws) _ feet-fits
-      (either-fits (named "help" ws) (helpText ws) unread help-fits unread-fits)))))))
-
-words-fit : (ws : List (List ℕ)) → length (wordsText ws) ≤ room
-unfolding wordsText
-words-fit [] = omega arith
-words-fit (w ∷ ws) = either-fits (comment w) [] (commandText (w ∷ ws)) (omega arith) (command-fits (w ∷ ws))
-
--- the text of any line fits
-pub line-fits : (line : List ℕ) → length (lineText line) ≤ room
-unfolding lineText
-line-fits line = words-fit (wordsOf line)
+      with-number-fits (numberIn 10 (word 1 ws)) (λ ac. altitude-lines.answerText (altitude ac)) (λ ac. omega (arith, answer-short ac))

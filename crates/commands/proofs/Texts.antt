@@ -1,22 +1,18 @@
 -- The texts of the console from what was read of a line and from the parts that the code lays one after the other.
 use Prim.Native.Nat.{ℕ, _+_, _-_, _≤_}
 use native.Mathlib.Omega.{arith}
-use mathlib.Core.Path.{_≡_, refl, sym, ap, _∙_}
-use mathlib.Core.Bool.{Bool, true, false}
-use mathlib.Core.List.{List, [], _∷_}
+use mathlib.Core.Path.{_≡_, sym, ap, _∙_}
+use mathlib.Core.List.{List}
 use mathlib.Core.Option.{some, none}
-use lib.Dec.{eqb}
 use lib.Seq.{take-at}
-use lib.ListN.{length, getD, take, drop, replicate, length-take, length-replicate, replicate-append-replicate}
-use Rattle.text.specs.Line.{wordsOf, within, sameAs, NthWord}
+use lib.ListN.{length, take, drop, replicate, length-take, length-replicate, replicate-append-replicate}
+use Rattle.text.specs.Line.{wordsOf, within, NthWord}
 use Rattle.text.specs.Hex.{bytesIn, HexRead}
 use Rattle.text.proofs.HexRead.{hex-found, hex-not, hex-same}
 use Rattle.text.specs.declared.answer.Span.{Span}
-use Rattle.text.specs.declared.answer.Number.the-variants as number
 use Rattle.text.specs.declared.answer.Hex.{Hex}
 use Rattle.text.specs.declared.answer.Hex.the-variants.{Bytes, Not}
 use Rattle.commands.specs.Texts.{word}
-use Rattle.commands.specs.Console.{comment, commandText, wordsText, lineText}
 
 -- ---- read
 
@@ -40,52 +36,6 @@ module _ {w l m : List ℕ} {a : Hex} (e : HexRead w l m a) where
 
   pub no-bytes : a ≡ Not → bytesIn w ≡ none
   no-bytes h = hex-not (rw h at e) .0
-
--- a word that was compared with a name
-pub compared : {n w : List ℕ} (t : List ℕ) {r v : Bool} → n ≡ w → r ≡ sameAs n t → r ≡ v → sameAs w t ≡ v
-compared t e f h = rw (← e, ← f) h
-
--- the first byte of a word
-pub comment-none : (w : List ℕ) → length w ≡ 0 → false ≡ comment w
-unfolding comment
-comment-none [] h = refl
-comment-none (b ∷ w) h = absurd (omega arith)
-
-pub comment-first : (w : List ℕ) → (length w ≡ 0 → ⊥) → eqb (getD w 0 0) 35 ≡ comment w
-unfolding comment
-comment-first [] h = absurd (h refl)
-comment-first (b ∷ w) h = refl
-
--- ---- a line by its words
-
-none-by : (ws : List (List ℕ)) → length ws ≡ 0 → wordsText ws ≡ []
-unfolding wordsText
-none-by [] e = refl
-none-by (w ∷ ws) e = absurd (omega arith)
-
-silent-by : (ws : List (List ℕ)) → comment (word 0 ws) ≡ true → wordsText ws ≡ []
-unfolding wordsText word
-silent-by [] h = refl
-silent-by (w ∷ ws) h = rw h
-
-answered-by : (ws : List (List ℕ)) → (length ws ≡ 0 → ⊥) → comment (word 0 ws) ≡ false → wordsText ws ≡ commandText ws
-unfolding wordsText word
-answered-by [] n h = absurd (n refl)
-answered-by (w ∷ ws) n h = rw h
-
-module _ (line : List ℕ) where
-  pub no-words : length (wordsOf line) ≡ 0 → lineText line ≡ []
-  unfolding lineText
-  no-words e = none-by (wordsOf line) e
-
-  module _ {w : List ℕ} (e : w ≡ word 0 (wordsOf line)) where
-    pub silent : comment w ≡ true → lineText line ≡ []
-    unfolding lineText
-    silent h = silent-by (wordsOf line) (ap comment (sym e) ∙ h)
-
-    pub answered : (length (wordsOf line) ≡ 0 → ⊥) → comment w ≡ false → lineText line ≡ commandText (wordsOf line)
-    unfolding lineText
-    answered n h = answered-by (wordsOf line) n (ap comment (sym e) ∙ h)
 
 -- a buffer of 32 zeros, lent as long as the bytes that a word says
 front-zeros : (n : ℕ) → n ≤ 32 → take n (replicate {A = ℕ} 32 0) ≡ replicate n 0

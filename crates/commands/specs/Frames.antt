@@ -13,7 +13,7 @@ use Rattle.frames.specs.Answers.{Answer, own, matchingII}
 use Rattle.frames.specs.Formats.{longFormat}
 use Rattle.frames.specs.Reading.{readUp, readDown, mbPart}
 use Rattle.frames.specs.Codes.{codeOf}
-use Rattle.commands.specs.Texts.{word, ofWords, withNumber, withBytes, answerText}
+use Rattle.commands.specs.Texts.{word, withNumber, withBytes, answerText}
 
 -- ---- a frame that is read
 
@@ -54,10 +54,10 @@ unfoldable pub interrogationText : List ℕ → List ℕ
 interrogationText msg = readText (readUp msg) (mbPart msg)
 
 unfoldable pub upText : List (List ℕ) → List ℕ
-upText ws = ofWords 2 ws (withBytes (bytesIn (word 1 ws)) interrogationText)
+upText ws = withBytes (bytesIn (word 1 ws)) interrogationText
 
 unfoldable pub downText : List (List ℕ) → List ℕ
-downText ws = ofWords 2 ws (withBytes (bytesIn (word 1 ws)) replyText)
+downText ws = withBytes (bytesIn (word 1 ws)) replyText
 
 -- ---- whose code a reply carries
 
@@ -70,9 +70,8 @@ whoseText a = answerText (a .number) (codeWord (a .values))
 
 unfoldable pub codeText : List (List ℕ) → List ℕ
 codeText ws =
-    ofWords 5 ws
-    (withBytes (bytesIn (word 1 ws)) (λ msg.
+    withBytes (bytesIn (word 1 ws)) (λ msg.
     withNumber (numberIn 10 (word 2 ws)) (λ cl.
     withNumber (numberIn 10 (word 3 ws)) (λ ic.
     withNumber (numberIn 10 (word 4 ws)) (λ permit.
-    whoseText (codeOf msg cl ic permit))))))
+    whoseText (codeOf msg cl ic permit)))))

@@ -1,7 +1,6 @@
--- The definitions: what each line of the console prints.
+-- The definitions: what each line of the console without a state prints.
 pub mod Texts
 pub mod Parity
+pub mod Building
 pub mod Frames
 pub mod Feet
-pub mod Help
-pub mod Console

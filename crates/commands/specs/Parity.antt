@@ -10,7 +10,7 @@ use Rattle.parity.specs.Answers.{Answer, Outcome}
 use Rattle.parity.specs.Division.{remainderAnswer}
 use Rattle.parity.specs.Overlays.{uplinkOverlay}
 use Rattle.parity.specs.Correction.{correction}
-use Rattle.commands.specs.Texts.{word, ofWords, withNumber, withBytes, answerText}
+use Rattle.commands.specs.Texts.{word, withNumber, withBytes, answerText}
 
 -- a remainder or an overlay has six digits
 unfoldable pub reckonedText : Answer → List ℕ
@@ -21,10 +21,10 @@ unfoldable pub correctedText : Outcome → List ℕ
 correctedText o = answerText (o .number) (hexOf (o .output) ++ (plain " " ++ decimal (o .flips)))
 
 unfoldable pub remainderText : List (List ℕ) → List ℕ
-remainderText ws = ofWords 2 ws (withBytes (bytesIn (word 1 ws)) (λ msg. reckonedText (remainderAnswer msg)))
+remainderText ws = withBytes (bytesIn (word 1 ws)) (λ msg. reckonedText (remainderAnswer msg))
 
 unfoldable pub overlayText : List (List ℕ) → List ℕ
-overlayText ws = ofWords 2 ws (withNumber (numberIn 10 (word 1 ws)) (λ address. reckonedText (uplinkOverlay address)))
+overlayText ws = withNumber (numberIn 10 (word 1 ws)) (λ address. reckonedText (uplinkOverlay address))
 
 -- a correction whose output buffer is lent as long as the message
 unfoldable pub fixedText : List ℕ → List ℕ → ℕ → ℕ → List ℕ
@@ -32,9 +32,8 @@ fixedText msg marks overlay limit = correctedText (correction msg marks overlay 
 
 unfoldable pub correctText : List (List ℕ) → List ℕ
 correctText ws =
-    ofWords 5 ws
-    (withBytes (bytesIn (word 1 ws)) (λ msg.
+    withBytes (bytesIn (word 1 ws)) (λ msg.
     withBytes (bytesIn (word 2 ws)) (λ marks.
     withNumber (numberIn 10 (word 3 ws)) (λ overlay.
     withNumber (numberIn 10 (word 4 ws)) (λ limit.
-    fixedText msg marks overlay limit)))))
+    fixedText msg marks overlay limit))))

@@ -3,7 +3,7 @@ use Prim.Native.Nat.{ℕ}
 use mathlib.Core.List.{List, [], _++_}
 use mathlib.Core.Option.{Option, some, none}
 use lib.Dec.{eqb}
-use lib.ListN.{length, getD}
+use lib.ListN.{getD}
 use Rattle.lists.specs.Lists.{pick}
 use Rattle.text.specs.Put.{decimal}
 use Rattle.text.specs.Plain.{plain}
@@ -19,10 +19,6 @@ unread = plain "?\n"
 -- the k-th word, from 0; the empty one where there is none
 unfoldable pub word : ℕ → List (List ℕ) → List ℕ
 word k ws = getD ws k []
-
--- too few or too many words cannot be read
-unfoldable pub ofWords : ℕ → List (List ℕ) → List ℕ → List ℕ
-ofWords n ws text = pick (eqb (length ws) n) text unread
 
 -- a word that is no number where one belongs cannot be read
 unfoldable pub withNumber : Number → (ℕ → List ℕ) → List ℕ

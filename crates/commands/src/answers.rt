@@ -7,14 +7,14 @@ ghost use Rattle.commands.specs.Parity.{reckonedText};
 use parity::Reckoned;
 
 // For a line that cannot be read.
-pub(crate) fn put_unread(out: &mut [u8]) -> usize
+pub fn put_unread(out: &mut [u8]) -> usize
     ensures { λ r. ⌜ Put unread 0 (now (out .entry)) (now (out .exit)) r ⌝ }
 {
     text::put_bytes(out, 0, b"?\n")
 }
 
 // A refusal's number alone.
-pub(crate) fn put_refusal(out: &mut [u8], n: u32) -> usize
+pub fn put_refusal(out: &mut [u8], n: u32) -> usize
     ensures { λ r. ⌜ Put (refusalText n) 0 (now (out .entry)) (now (out .exit)) r ⌝ }
 {
     let end = text::put_decimal(out, 0, n);

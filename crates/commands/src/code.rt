@@ -26,12 +26,9 @@ fn put_whose(out: &mut [u8], a: Code) -> usize
 }
 
 // A reply, and a station's CL, IC and permission.
-pub(crate) fn put_code(line: &[u8], out: &mut [u8]) -> usize
+pub fn put_code(line: &[u8], out: &mut [u8]) -> usize
     ensures { λ r. ⌜ Put (codeText (wordsOf (now (line .entry)))) 0 (now (out .entry)) (now (out .exit)) r ⌝ }
 {
-    if text::word_count(line) != 5 {
-        return put_unread(out);
-    }
     let mut msg = [0u8; 32];
     let Hex::Bytes(n) = bytes_at(line, 1, &mut msg) else {
         return put_unread(out);

@@ -50,12 +50,9 @@ fn put_fixed(
 }
 
 // A message, its marks, an overlay and a limit.
-pub(crate) fn put_correct(line: &[u8], out: &mut [u8]) -> usize
+pub fn put_correct(line: &[u8], out: &mut [u8]) -> usize
     ensures { λ r. ⌜ Put (correctText (wordsOf (now (line .entry)))) 0 (now (out .entry)) (now (out .exit)) r ⌝ }
 {
-    if text::word_count(line) != 5 {
-        return put_unread(out);
-    }
     let mut msg = [0u8; 32];
     let Hex::Bytes(n) = bytes_at(line, 1, &mut msg) else {
         return put_unread(out);

@@ -7,12 +7,9 @@ use crate::words::number_at;
 use text::Number;
 
 // The altitude that a code says.
-pub(crate) fn put_feet(line: &[u8], out: &mut [u8]) -> usize
+pub fn put_feet(line: &[u8], out: &mut [u8]) -> usize
     ensures { λ r. ⌜ Put (feetText (wordsOf (now (line .entry)))) 0 (now (out .entry)) (now (out .exit)) r ⌝ }
 {
-    if text::word_count(line) != 2 {
-        return put_unread(out);
-    }
     match number_at(line, 1) {
         Number::Is(ac) => altitude::put_answer(out, 0, ac),
         Number::Not => put_unread(out),

@@ -58,12 +58,9 @@ fn put_reply(out: &mut [u8], msg: &[u8]) -> usize
 }
 
 // A reply read alone.
-pub(crate) fn put_down(line: &[u8], out: &mut [u8]) -> usize
+pub fn put_down(line: &[u8], out: &mut [u8]) -> usize
     ensures { λ r. ⌜ Put (downText (wordsOf (now (line .entry)))) 0 (now (out .entry)) (now (out .exit)) r ⌝ }
 {
-    if text::word_count(line) != 2 {
-        return put_unread(out);
-    }
     let mut msg = [0u8; 32];
     match bytes_at(line, 1, &mut msg) {
         Hex::Bytes(n) => put_reply(out, &msg[..n]),
@@ -118,12 +115,9 @@ fn put_interrogation(out: &mut [u8], msg: &[u8]) -> usize
 }
 
 // An interrogation read alone.
-pub(crate) fn put_up(line: &[u8], out: &mut [u8]) -> usize
+pub fn put_up(line: &[u8], out: &mut [u8]) -> usize
     ensures { λ r. ⌜ Put (upText (wordsOf (now (line .entry)))) 0 (now (out .entry)) (now (out .exit)) r ⌝ }
 {
-    if text::word_count(line) != 2 {
-        return put_unread(out);
-    }
     let mut msg = [0u8; 32];
     match bytes_at(line, 1, &mut msg) {
         Hex::Bytes(n) => put_interrogation(out, &msg[..n]),

@@ -10,12 +10,9 @@ use text::Hex;
 use text::Number;
 
 // The remainder of a message.
-pub(crate) fn put_remainder(line: &[u8], out: &mut [u8]) -> usize
+pub fn put_remainder(line: &[u8], out: &mut [u8]) -> usize
     ensures { λ r. ⌜ Put (remainderText (wordsOf (now (line .entry)))) 0 (now (out .entry)) (now (out .exit)) r ⌝ }
 {
-    if text::word_count(line) != 2 {
-        return put_unread(out);
-    }
     let mut msg = [0u8; 32];
     match bytes_at(line, 1, &mut msg) {
         Hex::Bytes(n) => put_reckoned(out, parity::remainder(&msg[..n])),
@@ -24,12 +21,9 @@ pub(crate) fn put_remainder(line: &[u8], out: &mut [u8]) -> usize
 }
 
 // The uplink overlay of an address.
-pub(crate) fn put_overlay(line: &[u8], out: &mut [u8]) -> usize
+pub fn put_overlay(line: &[u8], out: &mut [u8]) -> usize
     ensures { λ r. ⌜ Put (overlayText (wordsOf (now (line .entry)))) 0 (now (out .entry)) (now (out .exit)) r ⌝ }
 {
-    if text::word_count(line) != 2 {
-        return put_unread(out);
-    }
     match number_at(line, 1) {
         Number::Is(address) => put_reckoned(out, parity::uplink_overlay(address)),
         Number::Not => put_unread(out),

@@ -8,7 +8,7 @@ use text::Hex;
 use text::Number;
 
 // The k-th word as a number of at most ten digits.
-pub(crate) fn number_at(line: &[u8], k: usize) -> Number
+pub fn number_at(line: &[u8], k: usize) -> Number
     ensures { λ r. ⌜ r ≡ numberIn 10 (word k (wordsOf (now (line .entry)))) ⌝ }
 {
     let w = text::nth_word(line, k);
@@ -18,7 +18,7 @@ pub(crate) fn number_at(line: &[u8], k: usize) -> Number
 }
 
 // The bytes of the k-th word, at the front of out.
-pub(crate) fn bytes_at(line: &[u8], k: usize, out: &mut [u8; 32]) -> Hex
+pub fn bytes_at(line: &[u8], k: usize, out: &mut [u8; 32]) -> Hex
     ensures { λ r. ⌜ HexRead (word k (wordsOf (now (line .entry)))) (now (out .entry)) (now (out .exit)) r ⌝ }
 {
     let w = text::nth_word(line, k);

@@ -9,7 +9,7 @@ fn main() {
     let mut text = [0u8; 512];
     let mut at: usize = 0;
     while at < s.len() {
-        let r = commands::console_line(s, at, &mut text);
+        let r = calls::console_line(s, at, &mut text);
         let size = r.size;
         io::write_all(STDOUT_FILENO, &text[..size]);
         at = r.next;

@@ -1,15 +1,11 @@
 -- `put_correct` reads four words in turn, and lays the correction of what they say.
 use mathlib.Core.Path.{_≡_, refl, sym, _∙_}
-use mathlib.Core.Bool.{true}
 use Prim.Native.Nat.{ℕ}
 use mathlib.Core.List.{List}
-use lib.Dec.{eqb}
-use lib.ListN.{length}
-use borrow.Author.Tests.{eq-eqb, ne-eqb}
 use Rattle.text.specs.Line.{wordsOf}
 use Rattle.text.specs.Number.{numberIn}
 use Rattle.text.specs.declared.answer.Number.the-variants.{Is}
-use Rattle.commands.specs.Texts.{word, ofWords, withBytes, withNumber}
+use Rattle.commands.specs.Texts.{word, withBytes, withNumber}
 use Rattle.commands.specs.Parity.{correctText}
 use Rattle.commands.proofs.Texts.{Held, held, no-bytes, zeros, zeros-count}
 use borrow.Author.Needs.{needs}
@@ -17,46 +13,27 @@ use Rattle.commands.proofs.correction.put_correct.Statement.{statement}
 use Rattle.commands.proofs.correction.put_correct.Tie as tie
 
 -- the line's words, from the places that the answers stand at
-abbrev words-1 : tie.Else1 → List (List ℕ)
-words-1 c = wordsOf (c .before .before .before .before .args .line .now)
+abbrev words-1 : tie.After-n → List (List ℕ)
+words-1 c = wordsOf (c .before .before .before .before .before .before .args .line .now)
 
-abbrev words-2 : tie.After-n → List (List ℕ)
-words-2 c = words-1 (c .before .before .before .before)
+abbrev words-2 : tie.After-m → List (List ℕ)
+words-2 c = words-1 (c .before .before .before .before .before)
 
-abbrev words-3 : tie.After-m → List (List ℕ)
-words-3 c = words-2 (c .before .before .before .before .before)
-
-abbrev words-4 : tie.After-overlay → List (List ℕ)
-words-4 c = words-3 (c .before .before .before .before)
+abbrev words-3 : tie.After-overlay → List (List ℕ)
+words-3 c = words-2 (c .before .before .before .before)
 
 -- what was read
-counted : (c : tie.Else1) → eqb (length (words-1 c)) 5 ≡ true
-counted c = rw (← (c .before .word-count .ensures)) (eq-eqb _ 5 (c .if1 .left))
-
-message : (c : tie.After-n) → Held (word 1 (words-2 c)) (c .n .given .0 .0) (c .before .before .bytes-at .last .1 .1 .0)
+message : (c : tie.After-n) → Held (word 1 (words-1 c)) (c .n .given .0 .0) (c .before .before .bytes-at .last .1 .1 .0)
 message c = held (c .before .before .bytes-at .ensures) refl (c .n .given .1)
 
-marking : (c : tie.After-m) → Held (word 2 (words-3 c)) (c .m .given .0 .0) (c .before .before .bytes-at2 .last .1 .1 .0)
+marking : (c : tie.After-m) → Held (word 2 (words-2 c)) (c .m .given .0 .0) (c .before .before .bytes-at2 .last .1 .1 .0)
 marking c = held (c .before .before .bytes-at2 .ensures) refl (c .m .given .1)
 
-overlaid : (c : tie.After-overlay) → numberIn 10 (word 3 (words-4 c)) ≡ Is (c .overlay .given .0 .0)
+overlaid : (c : tie.After-overlay) → numberIn 10 (word 3 (words-3 c)) ≡ Is (c .overlay .given .0 .0)
 overlaid c = sym (c .before .before .number-at .ensures) ∙ c .overlay .given .1
 
-limited : (c : tie.After-limit) → numberIn 10 (word 4 (words-4 (c .before .before .before .before))) ≡ Is (c .limit .given .0 .0)
+limited : (c : tie.After-limit) → numberIn 10 (word 4 (words-3 (c .before .before .before .before))) ≡ Is (c .limit .given .0 .0)
 limited c = sym (c .before .before .number-at2 .ensures) ∙ c .limit .given .1
-
-word-count-requires : tie.Need-word-count-requires
-word-count-requires c κs = search needs
-
-put-unread-requires : tie.Need-put-unread-requires
-put-unread-requires c κs = search needs
-
-same-length : tie.Need-same-length
-same-length c = search needs
-
-returns : tie.Need-returns
-unfolding correctText ofWords withBytes withNumber
-returns c = rw (← (c .before .before .before .before .before .word-count .ensures), ne-eqb _ 5 (c .before .before .before .before .if1 .taken)) (c .before .before .put-unread .ensures)
 
 bytes-at-requires : tie.Need-bytes-at-requires
 bytes-at-requires c κs = search needs
@@ -67,15 +44,15 @@ enum-known-n c = search needs
 enum-told : tie.Need-enum-told
 enum-told c = search needs
 
-put-unread-requires-2 : tie.Need-put-unread-requires-2
-put-unread-requires-2 c κs = search needs
+put-unread-requires : tie.Need-put-unread-requires
+put-unread-requires c κs = search needs
 
-same-length-2 : tie.Need-same-length-2
-same-length-2 c = search needs
+same-length : tie.Need-same-length
+same-length c = search needs
 
-returns-2 : tie.Need-returns-2
-unfolding correctText ofWords withBytes withNumber
-returns-2 c = rw (counted (c .before .before .before .before .before .before .before .before), no-bytes (c .before .before .before .before .before .before .bytes-at .ensures) (c .before .before .before .before .enum-told .given .1)) (c .before .before .put-unread2 .ensures)
+returns : tie.Need-returns
+unfolding correctText withBytes withNumber
+returns c = rw (no-bytes (c .before .before .before .before .before .before .bytes-at .ensures) (c .before .before .before .before .enum-told .given .1)) (c .before .before .put-unread .ensures)
 
 bytes-at-requires-2 : tie.Need-bytes-at-requires-2
 bytes-at-requires-2 c κs = search needs
@@ -86,17 +63,17 @@ enum-known-m c = search needs
 enum-told-2 : tie.Need-enum-told-2
 enum-told-2 c = search needs
 
-put-unread-requires-3 : tie.Need-put-unread-requires-3
-put-unread-requires-3 c κs = search needs
+put-unread-requires-2 : tie.Need-put-unread-requires-2
+put-unread-requires-2 c κs = search needs
 
-same-length-3 : tie.Need-same-length-3
-same-length-3 c = search needs
+same-length-2 : tie.Need-same-length-2
+same-length-2 c = search needs
 
-returns-3 : tie.Need-returns-3
-unfolding correctText ofWords withBytes withNumber
-returns-3 c =
+returns-2 : tie.Need-returns-2
+unfolding correctText withBytes withNumber
+returns-2 c =
     let n = c .before .before .before .before .before .before .before .before .before in
-    rw (counted (n .before .before .before .before), message n .said, no-bytes (c .before .before .before .before .before .before .bytes-at2 .ensures) (c .before .before .before .before .enum-told2 .given .1)) (c .before .before .put-unread3 .ensures)
+    rw (message n .said, no-bytes (c .before .before .before .before .before .before .bytes-at2 .ensures) (c .before .before .before .before .enum-told2 .given .1)) (c .before .before .put-unread2 .ensures)
 
 number-at-requires : tie.Need-number-at-requires
 number-at-requires c κs = search needs
@@ -107,18 +84,18 @@ enum-known-overlay c = search needs
 enum-told-3 : tie.Need-enum-told-3
 enum-told-3 c = search needs
 
-put-unread-requires-4 : tie.Need-put-unread-requires-4
-put-unread-requires-4 c κs = search needs
+put-unread-requires-3 : tie.Need-put-unread-requires-3
+put-unread-requires-3 c κs = search needs
 
-same-length-4 : tie.Need-same-length-4
-same-length-4 c = search needs
+same-length-3 : tie.Need-same-length-3
+same-length-3 c = search needs
 
-returns-4 : tie.Need-returns-4
-unfolding correctText ofWords withBytes withNumber
-returns-4 c =
+returns-3 : tie.Need-returns-3
+unfolding correctText withBytes withNumber
+returns-3 c =
     let m = c .before .before .before .before .before .before .before .before in
     let n = m .before .before .before .before .before in
-    rw (counted (n .before .before .before .before), message n .said, marking m .said, ← (c .before .before .before .before .before .before .number-at .ensures), c .before .before .before .before .enum-told3 .given .1) (c .before .before .put-unread4 .ensures)
+    rw (message n .said, marking m .said, ← (c .before .before .before .before .before .before .number-at .ensures), c .before .before .before .before .enum-told3 .given .1) (c .before .before .put-unread3 .ensures)
 
 number-at-requires-2 : tie.Need-number-at-requires-2
 number-at-requires-2 c κs = search needs
@@ -129,19 +106,19 @@ enum-known-limit c = search needs
 enum-told-4 : tie.Need-enum-told-4
 enum-told-4 c = search needs
 
-put-unread-requires-5 : tie.Need-put-unread-requires-5
-put-unread-requires-5 c κs = search needs
+put-unread-requires-4 : tie.Need-put-unread-requires-4
+put-unread-requires-4 c κs = search needs
 
-same-length-5 : tie.Need-same-length-5
-same-length-5 c = search needs
+same-length-4 : tie.Need-same-length-4
+same-length-4 c = search needs
 
-returns-5 : tie.Need-returns-5
-unfolding correctText ofWords withBytes withNumber
-returns-5 c =
+returns-4 : tie.Need-returns-4
+unfolding correctText withBytes withNumber
+returns-4 c =
     let o = c .before .before .before .before .before .before .before .before in
     let m = o .before .before .before .before in
     let n = m .before .before .before .before .before in
-    rw (counted (n .before .before .before .before), message n .said, marking m .said, overlaid o, ← (c .before .before .before .before .before .before .number-at2 .ensures), c .before .before .before .before .enum-told4 .given .1) (c .before .before .put-unread5 .ensures)
+    rw (message n .said, marking m .said, overlaid o, ← (c .before .before .before .before .before .before .number-at2 .ensures), c .before .before .before .before .enum-told4 .given .1) (c .before .before .put-unread4 .ensures)
 
 array-share-prefix-msg : tie.Need-array-share-prefix-msg
 array-share-prefix-msg c = message (c .before .before .before .before .before .before .before .before .before .before .before .before .before .before .before) .room
@@ -164,50 +141,46 @@ slice-aggregate-put-fixed-3 c = zeros-count (message (c .before .before .before 
 put-fixed-requires : tie.Need-put-fixed-requires
 put-fixed-requires c κs = zeros (message (c .before .before .before .before .before .before .before .before .before .before .before .before .before .before .before .before .before .before))
 
-same-length-6 : tie.Need-same-length-6
-same-length-6 c = search needs
+same-length-5 : tie.Need-same-length-5
+same-length-5 c = search needs
 
-returns-6 : tie.Need-returns-6
-unfolding correctText ofWords withBytes withNumber
-returns-6 c =
+returns-5 : tie.Need-returns-5
+unfolding correctText withBytes withNumber
+returns-5 c =
     let l = c .before .before .before .before .before .before .before .before .before in
     let o = l .before .before .before .before in
     let m = o .before .before .before .before in
     let n = m .before .before .before .before .before in
-    rw (counted (n .before .before .before .before), message n .said, marking m .said, overlaid o, limited l) (c .before .before .before .put-fixed .ensures)
+    rw (message n .said, marking m .said, overlaid o, limited l) (c .before .before .before .put-fixed .ensures)
 
 pub put-correct-spec : {M : Type 1} → statement M
 put-correct-spec =
     tie.close
     (tie.spec
-    word-count-requires
-    put-unread-requires
-    same-length
-    returns
     bytes-at-requires
     enum-known-n
     enum-told
-    put-unread-requires-2
-    same-length-2
-    returns-2
+    put-unread-requires
+    same-length
+    returns
     bytes-at-requires-2
     enum-known-m
     enum-told-2
-    put-unread-requires-3
-    same-length-3
-    returns-3
+    put-unread-requires-2
+    same-length-2
+    returns-2
     number-at-requires
     enum-known-overlay
     enum-told-3
-    put-unread-requires-4
-    same-length-4
-    returns-4
+    put-unread-requires-3
+    same-length-3
+    returns-3
     number-at-requires-2
     enum-known-limit
     enum-told-4
-    put-unread-requires-5
-    same-length-5
-    returns-5
+    put-unread-requires-4
+    same-length-4
+    returns-4
     array-share-prefix-msg
     slice-aggregate-put-fixed
     array-share-prefix-marks
@@ -215,5 +188,5 @@ put-correct-spec =
     array-borrow-prefix-fixed
     slice-aggregate-put-fixed-3
     put-fixed-requires
-    same-length-6
-    returns-6)
+    same-length-5
+    returns-5)

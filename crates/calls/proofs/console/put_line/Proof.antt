@@ -2,10 +2,11 @@
 use mathlib.Core.Path.{sym, _∙_}
 use native.Mathlib.Omega.{arith}
 use Rattle.text.proofs.Laid.{put-of, put-none}
-use Rattle.commands.proofs.Texts.{word-of, no-words, silent, answered}
+use Rattle.commands.proofs.Texts.{word-of}
+use Rattle.calls.proofs.Lines.{no-words, silent, answered}
 use borrow.Author.Needs.{needs}
-use Rattle.commands.proofs.console.put_line.Statement.{statement}
-use Rattle.commands.proofs.console.put_line.Tie as tie
+use Rattle.calls.proofs.console.put_line.Statement.{statement}
+use Rattle.calls.proofs.console.put_line.Tie as tie
 
 word-count-requires : tie.Need-word-count-requires
 word-count-requires c κs = search needs

@@ -3,49 +3,43 @@ ghost use mathlib.Core.Path.{_≡_};
 ghost use Rattle.text.specs.Put.{Put};
 ghost use Rattle.text.specs.Line.{wordsOf};
 ghost use Rattle.text.specs.Run.{TookLine};
 ghost use Rattle.commands.specs.Texts.{word};
-ghost use Rattle.commands.specs.Console.{commandText, comment, lineText};
-use crate::answers::put_unread;
-use crate::code::put_code;
-use crate::correction::put_correct;
-use crate::feet::put_feet;
+ghost use Rattle.calls.specs.Console.{callText, commandText, comment, lineText};
 use crate::help::put_help;
-use crate::reading::put_down;
-use crate::reading::put_up;
-use crate::reckoning::put_overlay;
-use crate::reckoning::put_remainder;
+use crate::names::Command;
+use crate::names::find_command;
+use crate::names::words_for;
 use text::Lined;
 
-// The call that the first word names.
+// What a call prints for a line with its number of words.
+fn put_call(c: Command, line: &[u8], out: &mut [u8]) -> usize
+    ensures { λ r. ⌜ Put (callText c (wordsOf (now (line .entry)))) 0 (now (out .entry)) (now (out .exit)) r ⌝ }
+{
+    match c {
+        Command::Remainder => commands::put_remainder(line, out),
+        Command::Overlay => commands::put_overlay(line, out),
+        Command::Correct => commands::put_correct(line, out),
+        Command::Build => commands::put_build(line, out),
+        Command::AllCall => commands::put_all_call_frame(line, out),
+        Command::Up => commands::put_up(line, out),
+        Command::Down => commands::put_down(line, out),
+        Command::Code => commands::put_code(line, out),
+        Command::Feet => commands::put_feet(line, out),
+        Command::Help => put_help(out),
+        Command::Unknown => commands::put_unread(out),
+    }
+}
+
+// The call that the first word names, if the line has its number of words.
 fn put_command(line: &[u8], name: &[u8], out: &mut [u8]) -> usize
     requires { ⌜ now name ≡ word 0 (wordsOf (now line)) ⌝ }
     ensures { λ r. ⌜ Put (commandText (wordsOf (now (line .entry)))) 0 (now (out .entry)) (now (out .exit)) r ⌝ }
 {
-    if text::same(name, b"remainder") {
-        return put_remainder(line, out);
+    let c = find_command(name);
+    if text::word_count(line) != words_for(c) {
+        return commands::put_unread(out);
     }
-    if text::same(name, b"overlay") {
-        return put_overlay(line, out);
-    }
-    if text::same(name, b"correct") {
-        return put_correct(line, out);
-    }
-    if text::same(name, b"up") {
-        return put_up(line, out);
-    }
-    if text::same(name, b"down") {
-        return put_down(line, out);
-    }
-    if text::same(name, b"code") {
-        return put_code(line, out);
-    }
-    if text::same(name, b"feet") {
-        return put_feet(line, out);
-    }
-    if text::same(name, b"help") {
-        return put_help(line, out);
-    }
-    put_unread(out)
+    put_call(c, line, out)
 }
 
 // The word begins with a hash sign.

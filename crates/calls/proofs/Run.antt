@@ -9,8 +9,9 @@ use Rattle.text.specs.Run.{linesText, TookLine}
 use Rattle.text.specs.declared.answer.Lined.{Lined}
 use Rattle.text.proofs.Lines.{visited}
 use Rattle.text.proofs.Run as run
-use Rattle.commands.specs.Console.{lineText, consoleText}
-use Rattle.commands.proofs.Short.{room, line-fits}
+use Rattle.calls.specs.Console.{lineText, consoleText}
+use Rattle.commands.proofs.Short.{room}
+use Rattle.calls.proofs.Short.{line-fits}
 
 -- with 512 bytes lent, what the call leaves at the buffer's front is the whole text of the line
 pub line-stands : (s : List ℕ) (at : ℕ) (before after : List ℕ) (r : Lined) → room ≤ length before → TookLine lineText s at before after r

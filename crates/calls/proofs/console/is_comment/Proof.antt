@@ -1,8 +1,8 @@
 -- `is_comment` looks at the first byte, where there is one.
-use Rattle.commands.proofs.Texts.{comment-none, comment-first}
+use Rattle.calls.proofs.Lines.{comment-none, comment-first}
 use borrow.Author.Needs.{needs}
-use Rattle.commands.proofs.console.is_comment.Statement.{statement}
-use Rattle.commands.proofs.console.is_comment.Tie as tie
+use Rattle.calls.proofs.console.is_comment.Statement.{statement}
+use Rattle.calls.proofs.console.is_comment.Tie as tie
 
 returns : tie.Need-returns
 returns c = comment-none (c .before .args .word .now) (c .if1 .taken)

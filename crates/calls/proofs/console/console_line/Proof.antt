@@ -1,9 +1,9 @@
 -- `console_line` takes the line at a place and goes on behind its newline.
 use Rattle.text.proofs.Run.{took}
-use Rattle.commands.specs.Console.{lineText}
+use Rattle.calls.specs.Console.{lineText}
 use borrow.Author.Needs.{needs}
-use Rattle.commands.proofs.console.console_line.Statement.{statement}
-use Rattle.commands.proofs.console.console_line.Tie as tie
+use Rattle.calls.proofs.console.console_line.Statement.{statement}
+use Rattle.calls.proofs.console.console_line.Tie as tie
 
 line-at-requires : tie.Need-line-at-requires
 line-at-requires c κs = search needs

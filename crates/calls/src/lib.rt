@@ -1,0 +1,6 @@
+// The bench console: which call a line's first word names, and the lines of an input answered one after the other.
+mod console;
+mod help;
+mod names;
+
+pub use console::console_line;
