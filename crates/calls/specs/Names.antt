@@ -31,6 +31,10 @@ table =
     named "feet" Feet ∷
     named "help" Help ∷ []
 
+-- how many they are
+abbrev pub rowCount : ℕ
+rowCount = 10
+
 -- the call that a word names, by the first of the rows with that name; an unknown one where there is none
 unfoldable pub commandIn : List ℕ → List Named → Command
 commandIn w [] = Unknown
@@ -39,7 +43,7 @@ commandIn w (n ∷ ns) = pick (sameAs w (n .name)) (n .command) (commandIn w ns)
 unfoldable pub commandOf : List ℕ → Command
 commandOf w = commandIn w table
 
--- the k-th row, from 0
+-- the k-th row, from 0; behind the last one a row without a name
 unfoldable pub rowAt : ℕ → Named
 rowAt k = getD table k (named "" Unknown)
 

@@ -1,7 +1,8 @@
 // The calls of the console by their names, and how many words a line of each has.
+ghost use Prim.Native.Nat.{_<_};
 ghost use mathlib.Core.Path.{_≡_};
 ghost use Rattle.text.specs.Line.{sameAs};
-ghost use Rattle.calls.specs.Names.{commandOf, rowAt, wordsFor};
+ghost use Rattle.calls.specs.Names.{commandOf, rowAt, rowCount, wordsFor};
 
 // A call of the console.
 pub enum Command {
@@ -29,23 +30,29 @@ fn is_name(word: &[u8], k: usize) -> bool
     text::same(word, &names[from..to])
 }
 
+// How many names there are.
+const ROWS: usize = 10;
+
+// The calls in the order of their names.
+const COMMANDS: [Command; ROWS] = [
+    Command::Remainder,
+    Command::Overlay,
+    Command::Correct,
+    Command::Build,
+    Command::AllCall,
+    Command::Up,
+    Command::Down,
+    Command::Code,
+    Command::Feet,
+    Command::Help,
+];
+
 // The call with the k-th name.
 fn command_at(k: usize) -> Command
+    requires { ⌜ k < rowCount ⌝ }
     ensures { λ r. ⌜ r ≡ rowAt k .command ⌝ }
 {
-    match k {
-        0 => Command::Remainder,
-        1 => Command::Overlay,
-        2 => Command::Correct,
-        3 => Command::Build,
-        4 => Command::AllCall,
-        5 => Command::Up,
-        6 => Command::Down,
-        7 => Command::Code,
-        8 => Command::Feet,
-        9 => Command::Help,
-        _ => Command::Unknown,
-    }
+    COMMANDS[k]
 }
 
 // The call that a word names.
@@ -53,7 +60,7 @@ pub(crate) fn find_command(word: &[u8]) -> Command
     ensures { λ r. ⌜ r ≡ commandOf (now (word .entry)) ⌝ }
 {
     let mut k: usize = 0;
-    while k < 10 {
+    while k < ROWS {
         if is_name(word, k) {
             return command_at(k);
         }

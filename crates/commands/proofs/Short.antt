@@ -68,7 +68,7 @@ with-bytes-fits w f h = bytes-by w (bytesIn w) f refl h
 
 -- ---- the text of an answer
 
-pub answer-fits : (n : ℕ) (v : List ℕ) → n ≤ 14 → length v ≤ 80 → length (answerText n v) ≤ room
+pub answer-fits : (n : ℕ) (v : List ℕ) → n ≤ 17 → length v ≤ 80 → length (answerText n v) ≤ room
 unfolding answerText doneText refusalText
 answer-fits n v h k =
     either-fits (eqb n 0) (plain "0 " ++ (v ++ plain "\n")) (decimal n ++ plain "\n")
@@ -132,7 +132,7 @@ five-fits f a b c r part hf ha hb hc =
     answer-fits 0 (numberText f ++ (numberText a ++ (numberText b ++ (numberText c ++ hexIn 6 r)))) (omega arith)
     (simp length-append (omega (arith, number-fits f hf, number-fits a ha, number-fits b hb, number-fits c hc, hex-length 6 r)))
 
-refused-fits : (n : ℕ) (part : List ℕ) → n ≤ 14 → length (readText (frames.refusal n) part) ≤ room
+refused-fits : (n : ℕ) (part : List ℕ) → n ≤ 17 → length (readText (frames.refusal n) part) ≤ room
 unfolding readText valuesText fieldsText
 refused-fits n part h = answer-fits n [] h (omega arith)
 
@@ -169,7 +169,7 @@ code-word-fits vs = go (sameAs vs frames.own) (sameAs vs frames.matchingII)
     go false true = omega arith
     go false false = omega arith
 
-code-number : (t u v : Bool) (x : List ℕ) → pick t (pick u (pick v (frames.done x) (frames.refusal 14)) (frames.refusal 2)) (frames.refusal 1) .number ≤ 14
+code-number : (t u v : Bool) (x : List ℕ) → pick t (pick u (pick v (frames.done x) (frames.refusal 14)) (frames.refusal 2)) (frames.refusal 1) .number ≤ 17
 code-number true true true x = omega arith
 code-number true true false x = omega arith
 code-number true false v x = omega arith

@@ -1,9 +1,9 @@
 -- `find_command` compares the word with one name after the other.
-use Prim.Native.Nat.{_+_, _-_, _≤_}
+use Prim.Native.Nat.{_-_, _≤_}
 use native.Mathlib.Omega.{arith}
 use mathlib.Core.Path.{_≡_, refl, sym, _∙_}
 use lib.ListN.{drop}
-use Rattle.calls.specs.Names.{table, commandIn, commandOf}
+use Rattle.calls.specs.Names.{table, rowCount, commandIn, commandOf}
 use Rattle.calls.proofs.Table.{row-taken, row-passed, no-rows}
 use borrow.Author.Needs.{needs}
 use Rattle.calls.proofs.names.find_command.Statement.{statement}
@@ -11,10 +11,10 @@ use Rattle.calls.proofs.names.find_command.Tie as tie
 
 -- what the names behind k say is what all of them say
 abbrev Inv-loop : tie.InvT-loop
-Inv-loop word k₀ k = (k ≤ 10) × (commandOf word ≡ commandIn word (drop k table))
+Inv-loop word k₀ k = (k ≤ rowCount) × (commandOf word ≡ commandIn word (drop k table))
 
 abbrev μ-loop : tie.MeasureT-loop
-μ-loop word k₀ k = 10 - k
+μ-loop word k₀ k = rowCount - k
 
 loop-holds : tie.Need-loop-holds Inv-loop μ-loop
 unfolding commandOf
