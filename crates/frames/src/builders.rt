@@ -13,7 +13,7 @@ use crate::frame::overlay_of;
 use crate::frame::write;
 
 // Whether a number is an address: 1 to 16,777,214.
-pub(crate) fn an_address(a: u32) -> bool
+pub fn an_address(a: u32) -> bool
     ensures { λ r. ⌜ r ≡ anAddress a ⌝ }
 {
     if a == 0 {
@@ -23,7 +23,7 @@ pub(crate) fn an_address(a: u32) -> bool
 }
 
 // Whether the numbers of a selective interrogation are in their ranges.
-fn selective_ranged(uf: u32, pc: u32, rr: u32, di: u32, sd: u32, ma: u64, address: u32) -> bool
+pub fn selective_ranged(uf: u32, pc: u32, rr: u32, di: u32, sd: u32, ma: u64, address: u32) -> bool
     ensures { λ r. ⌜ r ≡ selectiveRanged uf pc rr di sd ma address ⌝ }
 {
     if 7 < pc {

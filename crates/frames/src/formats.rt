@@ -16,7 +16,7 @@ pub(crate) fn long_format(f: u32) -> bool
 }
 
 // Whether a format is one of 4, 5, 20 and 21.
-pub(crate) fn surveillance(f: u32) -> bool
+pub fn surveillance(f: u32) -> bool
     ensures { λ r. ⌜ r ≡ surveillance f ⌝ }
 {
     if f == 4 {
@@ -29,7 +29,7 @@ pub(crate) fn surveillance(f: u32) -> bool
 }
 
 // How many bytes a frame of a format has.
-pub(crate) fn length_of(f: u32) -> usize
+pub fn length_of(f: u32) -> usize
     ensures { λ r. ⌜ r ≡ lengthOf f ⌝ }
 {
     if long_format(f) {

@@ -1,12 +1,12 @@
 -- A map from an array into the slots of another that has come to place i.
-use Prim.Native.Nat.{ℕ, _+_, _≤_, _<_}
+use Prim.Native.Nat.{ℕ, _+_, _≤_, _<_, min}
 use native.Mathlib.Omega.{arith}
 use mathlib.Core.Path.{_≡_, refl, sym, ap, _∙_}
 use mathlib.Core.List.{List, [], _∷_, _++_, map, append-nil}
 use lib.ListN.{length, getD, take, drop, set, length-map, length-take, drop-of-length-le}
 use lib.Seq.{take-all}
 use Rattle.lists.specs.Lists.{over}
-use Rattle.lists.proofs.Front.{front-take}
+use Rattle.lists.proofs.Front.{front-take, take-cut}
 use Rattle.lists.proofs.Over.{over-none, over-push}
 
 module _ {A B : Type 0} (f : A → B) where
@@ -33,3 +33,10 @@ module _ {A B : Type 0} (f : A → B) where
       let all : take i l ≡ l = take-all i l b in
       let none : drop (length (map f l)) base ≡ [] = drop-of-length-le base {i = length (map f l)} (omega (arith, length-map l f)) in
       e ∙ (rw (all, none) (append-nil (map f l)))
+
+  -- at the end of the first m
+  pub copied-front : (m : ℕ) (l : List A) (base : List B) (i : ℕ) (xs : List B) → i ≡ min m (length l) → Copied l base i xs → xs ≡ over (map f (take m l)) base
+  copied-front m l base i xs b e = e ∙ ap (λ (v : List A). over (map f v) base) (ap (λ (n : ℕ). take n l) b ∙ take-cut m l)
+
+  pub copied-count : (m : ℕ) (l : List A) (k : ℕ) → k ≡ min m (length l) → k ≡ length (map f (take m l))
+  copied-count m l k e = e ∙ sym (length-map (take m l) f ∙ length-take m l)

@@ -5,11 +5,14 @@ pub mod Table
 pub mod Total
 pub mod Front
 pub mod Count
+pub mod Index
 pub mod Over
 pub mod Held
 pub mod Each
 pub mod Keys
 pub mod Filter
+pub mod Kept
 pub mod Copied
+pub mod Mapped
 pub mod Signed
 pub mod Xor

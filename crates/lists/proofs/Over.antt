@@ -3,8 +3,8 @@ use Prim.Native.Nat.{ℕ, zero, suc, _+_, _-_, _≤_, _<_}
 use native.Mathlib.Omega.{arith}
 use mathlib.Core.Path.{_≡_, refl, sym, ap, _∙_}
 use mathlib.Core.List.{List, [], _∷_, _++_}
-use lib.ListN.{length, take, drop, set, length-append, length-drop}
-use lib.Seq.{drop-cons, take-at, set-append-seam, append-snoc, drop-append-add, drop-drop}
+use lib.ListN.{length, getD, take, drop, set, length-append, length-drop, length-set}
+use lib.Seq.{drop-cons, take-at, set-append-seam, set-append-left, append-snoc, drop-append-add, drop-drop, getD-append-add, getD-drop}
 use Rattle.lists.specs.Lists.{over}
 
 module _ {A : Type 0} where
@@ -31,6 +31,14 @@ module _ {A : Type 0} where
   unfolding over
   over-self m l = self m l
 
+  -- a read at or past the end of what is written is one of the old slots
+  pub over-read : (v l : List A) (i : ℕ) (d : A) → length v ≤ i → getD (over v l) i d ≡ getD l i d
+  unfolding over
+  over-read v l i d h =
+      let e : length v + (i - length v) ≡ i = omega arith in
+      let s : getD (v ++ drop (length v) l) (length v + (i - length v)) d ≡ getD l (length v + (i - length v)) d = getD-append-add v (drop (length v) l) (i - length v) d ∙ getD-drop (length v) l (i - length v) d in
+      rw e at s
+
   -- one more is written
   push : (v l : List A) (x : A) → length v < length l → set (over v l) (length v) x ≡ over (v ++ (x ∷ [])) l
   unfolding over
@@ -48,3 +56,14 @@ module _ {A : Type 0} where
       let e : length v + (length w - length v) ≡ length w = omega arith in
       let s : drop (length v + (length w - length v)) (v ++ drop (length v) l) ≡ drop (length v + (length w - length v)) l = drop-append-add v (drop (length v) l) (length w - length v) ∙ drop-drop (length w - length v) (length v) l in
       ap (λ (t : List A). w ++ t) (rw e at s)
+
+  -- one more after the first m slots
+  pub front-push : (m : ℕ) (l : List A) (x : A) (k : ℕ) → k ≡ length (take m l) → k < length l → set l k x ≡ over (take m l ++ (x ∷ [])) l
+  front-push m l x k e h = let s = over-push (take m l) l x k (sym e) h in rw (over-self m l) at s
+
+  -- one of the first m slots is written anew
+  pub front-set : (m : ℕ) (l : List A) (i : ℕ) (y : A) → i < length (take m l) → set l i y ≡ over (set (take m l) i y) l
+  unfolding over
+  front-set m l i y h =
+      let s = set-append-left (take m l) (drop (length (take m l)) l) i y h in
+      rw (length-set (take m l) i y) (rw (self m l) at s)

@@ -1,5 +1,4 @@
 -- The laws of the crate: timers, draws, what a frame does, and who holds.
-pub mod Mapped
 pub mod Slots
 pub mod Built
 pub mod Steps

@@ -17,14 +17,9 @@ use Rattle.model.specs.State.{started}
 use Rattle.model.specs.Lapse.{timerAfter, timersAfter}
 use Rattle.model.specs.Replies.{sentBytes}
 use Rattle.model.specs.Calls.{makeRanged}
-use lib.ListN.{length, getD, take, drop, set, replicate, drop-of-length-le}
+use lib.ListN.{length, getD, drop, set, replicate, drop-of-length-le}
 use lib.Seq.{drop-cons, set-out}
 use Rattle.lists.specs.Lists.{over}
-use Rattle.lists.proofs.Over.{over-push, over-self}
-
--- one more after the first m slots
-pub front-push : {A : Type 0} (m : ℕ) (l : List A) (x : A) (k : ℕ) → k ≡ length (take m l) → k < length l → set l k x ≡ over (take m l ++ (x ∷ [])) l
-front-push m l x k e h = let s = over-push (take m l) l x k (sym e) h in rw (over-self m l) at s
 
 -- what eight slots hold after the first
 pub moved-up : (l : List ℕ) → length l ≡ 8 → getD l 1 0 ∷ getD l 2 0 ∷ getD l 3 0 ∷ getD l 4 0 ∷ getD l 5 0 ∷ getD l 6 0 ∷ getD l 7 0 ∷ 0 ∷ [] ≡ drop 1 l ++ (0 ∷ [])

@@ -14,7 +14,7 @@ pub(crate) fn whole(n: usize) -> bool
 }
 
 // Whether a message has one of the two lengths and its mark and output buffers have it too.
-pub(crate) fn fitting(n: usize, marks: usize, out: usize) -> bool
+pub fn fitting(n: usize, marks: usize, out: usize) -> bool
     ensures { λ r. ⌜ r ≡ sized n marks out ⌝ }
 {
     if marks != n {

@@ -12,5 +12,6 @@ pub use answers::Fix;
 pub use answers::Reckoned;
 pub use correction::correct;
 pub use division::remainder;
+pub use lengths::fitting;
 pub use overlay::code_overlay;
 pub use overlay::uplink_overlay;

@@ -7,7 +7,7 @@ use lib.ListN.{length}
 use Rattle.lists.proofs.Front.{length-mapped}
 use Rattle.model.specs.Lapse.{timerAfter}
 use Rattle.model.proofs.Slots.{timers-are}
-use Rattle.model.proofs.Mapped.{Mapped, mapped-none, mapped-more, mapped-all}
+use Rattle.lists.proofs.Mapped.{Mapped, mapped-none, mapped-more, mapped-all}
 use borrow.Author.Needs.{needs}
 use Rattle.model.proofs.lapses.timers_after.Statement.{statement}
 use Rattle.model.proofs.lapses.timers_after.Tie as tie

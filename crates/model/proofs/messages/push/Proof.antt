@@ -5,7 +5,7 @@ use native.Mathlib.Omega.{arith}
 use Prim.Native.Nat.{_-_}
 use lib.ListN.{length}
 use Rattle.model.specs.State.{messagesWith}
-use Rattle.model.proofs.Slots.{front-push}
+use Rattle.lists.proofs.Over.{front-push}
 use borrow.Author.Needs.{needs}
 use Rattle.model.proofs.messages.push.Statement.{statement}
 use Rattle.model.proofs.messages.push.Tie as tie

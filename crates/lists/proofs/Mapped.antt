@@ -1,21 +1,12 @@
--- A map in place over a whole array that has come to place i.
--- Assumes nothing.
-use Prim.Native.Nat.{ℕ, _+_, _-_, _≤_, _<_}
+-- A map in place over an array that has come to place i.
+use Prim.Native.Nat.{ℕ, _+_, _≤_, _<_, min}
 use native.Mathlib.Omega.{arith}
 use mathlib.Core.Path.{_≡_, ap, _∙_}
-use mathlib.Core.List.{List, _++_, map}
-use lib.ListN.{length, getD, take, drop, set, length-map, length-take}
-use lib.Seq.{getD-append-add, getD-drop}
+use mathlib.Core.List.{List, map}
+use lib.ListN.{length, getD, take, set, length-map, length-take}
 use Rattle.lists.specs.Lists.{over}
-use Rattle.lists.proofs.Copied.{Copied, copied-none, copied-more, copied-all}
-
--- a read at or past the end of what is written is one of the old slots
-over-read : {A : Type 0} (v l : List A) (i : ℕ) (d : A) → length v ≤ i → getD (over v l) i d ≡ getD l i d
-unfolding over
-over-read v l i d h =
-    let e : length v + (i - length v) ≡ i = omega arith in
-    let s : getD (v ++ drop (length v) l) (length v + (i - length v)) d ≡ getD l (length v + (i - length v)) d = getD-append-add v (drop (length v) l) (i - length v) d ∙ getD-drop (length v) l (i - length v) d in
-    rw e at s
+use Rattle.lists.proofs.Over.{over-read}
+use Rattle.lists.proofs.Copied.{Copied, copied-none, copied-more, copied-all, copied-front}
 
 module _ {A : Type 0} (f : A → A) where
   -- the slots xs: the first i images over what stood there
@@ -34,3 +25,7 @@ module _ {A : Type 0} (f : A → A) where
 
   pub mapped-all : (l : List A) (i : ℕ) (xs : List A) → length l ≤ i → Mapped l i xs → xs ≡ map f l
   mapped-all l i xs b m = copied-all f l l i xs b (omega arith) (m .slots)
+
+  -- at the end of the first m
+  pub mapped-front : (m : ℕ) (l : List A) (i : ℕ) (xs : List A) → i ≡ min m (length l) → Mapped l i xs → xs ≡ over (map f (take m l)) l
+  mapped-front m l i xs b e = copied-front f m l l i xs b (e .slots)
