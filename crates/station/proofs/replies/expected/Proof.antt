@@ -1,0 +1,45 @@
+-- `station::replies::expected` meets its contract: by what the request draws.
+-- Assumes nothing.
+use mathlib.Core.Path.{_≡_, sym, ap, _∙_}
+use Rattle.frames.specs.Shared.{drawn}
+use Rattle.histories.specs.Replies.{formatIn, expected}
+use borrow.Author.Needs.{needs}
+use Rattle.station.proofs.replies.expected.Statement.{statement}
+use Rattle.station.proofs.replies.expected.Tie as tie
+
+byte-requires : tie.Need-byte-requires
+byte-requires c κs = search needs
+
+byte-requires-2 : tie.Need-byte-requires-2
+byte-requires-2 c κs = search needs
+
+drawn-requires : tie.Need-drawn-requires
+drawn-requires c κs = search needs
+
+enum-known-d : tie.Need-enum-known-d
+enum-known-d c = search needs
+
+enum-told : tie.Need-enum-told
+enum-told c = search needs
+
+returns : tie.Need-returns
+unfolding expected
+returns c = let e : c .before .before .before .drawn .result ≡ drawn (c .before .before .before .before .before .before .args .q .uf) (c .before .before .before .before .before .before .args .q .rr) = c .before .before .before .drawn .ensures ∙ (rw (c .before .before .before .before .before .byte .ensures, c .before .before .before .before .byte2 .ensures)) in
+    ap formatIn (sym (c .before .d .given .1) ∙ e)
+
+returns-2 : tie.Need-returns-2
+unfolding expected
+returns-2 c = let e : c .before .before .drawn .result ≡ drawn (c .before .before .before .before .before .args .q .uf) (c .before .before .before .before .before .args .q .rr) = c .before .before .drawn .ensures ∙ (rw (c .before .before .before .before .byte .ensures, c .before .before .before .byte2 .ensures)) in
+    ap formatIn (sym (c .enum-told .given .1) ∙ e)
+
+pub expected-spec : {M : Type 1} → statement M
+expected-spec =
+    tie.close
+    (tie.spec
+    byte-requires
+    byte-requires-2
+    drawn-requires
+    enum-known-d
+    enum-told
+    returns
+    returns-2)

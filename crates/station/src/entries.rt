@@ -1,0 +1,128 @@
+// The entries of the plan in force: how many, each by its number, answered, or withdrawn.
+ghost use mathlib.Core.Path.{_≡_};
+ghost use Prim.Native.Nat.{_<_};
+ghost use lib.ListN.{length, getD};
+ghost use Rattle.histories.specs.State.{entriesOf, noAsk, noEntry, markWithdrawn, withdrawn, planWithdrawn};
+ghost use Rattle.histories.specs.Replies.{isOpen, planAnswered};
+use crate::slots::live;
+use crate::waiting::no_request;
+use histories::Plan;
+use planner::Ask;
+use planner::Entry;
+use planner::Mark;
+
+// A slot that holds no request with its edges.
+pub(crate) fn no_ask() -> Ask
+    ensures { λ r. ⌜ r ≡ noAsk ⌝ }
+{
+    let q = no_request();
+    Ask {
+        request: q,
+        near: 0,
+        far: 0,
+    }
+}
+
+// A slot that holds no entry.
+pub(crate) fn no_entry() -> Entry
+    ensures { λ r. ⌜ r ≡ noEntry ⌝ }
+{
+    let a = no_ask();
+    Entry {
+        ask: a,
+        start: 0,
+        mark: Mark::Open,
+    }
+}
+
+// How many entries the plan has.
+pub fn entry_count(p: Plan) -> usize
+    ensures { λ r. ⌜ r ≡ length (entriesOf p) ⌝ }
+{
+    live(p.n, 128)
+}
+
+// The entry of a number; an empty one where the plan has none.
+pub fn entry_of(p: Plan, k: usize) -> Entry
+    ensures { λ r. ⌜ r ≡ getD (entriesOf p) k noEntry ⌝ }
+{
+    if k < live(p.n, 128) {
+        return p.list[k];
+    }
+    no_entry()
+}
+
+// Whether an entry with this mark still waits for its reply.
+pub(crate) fn is_open(m: Mark) -> bool
+    ensures { λ r. ⌜ r ≡ isOpen m ⌝ }
+{
+    match m {
+        Mark::Open => true,
+        Mark::Answered => false,
+        Mark::Withdrawn => false,
+    }
+}
+
+// The entry of a number is answered.
+pub(crate) fn answered(p: Plan, k: usize) -> Plan
+    requires { ⌜ k < length (entriesOf p) ⌝ }
+    ensures { λ r. ⌜ r ≡ planAnswered k p ⌝ }
+{
+    let n = live(p.n, 128);
+    let e = entry_of(p, k);
+    let a = e.ask;
+    let f = Entry {
+        ask: a,
+        start: e.start,
+        mark: Mark::Answered,
+    };
+    let mut out = p;
+    out.list[k] = f;
+    out.n = n;
+    out
+}
+
+// What becomes of a mark when its target is removed.
+fn mark_withdrawn(m: Mark) -> Mark
+    ensures { λ r. ⌜ r ≡ markWithdrawn m ⌝ }
+{
+    match m {
+        Mark::Open => Mark::Withdrawn,
+        Mark::Answered => Mark::Answered,
+        Mark::Withdrawn => Mark::Withdrawn,
+    }
+}
+
+// An open entry of the address is withdrawn.
+fn withdraw(e: Entry, address: u32) -> Entry
+    ensures { λ r. ⌜ r ≡ withdrawn address e ⌝ }
+{
+    if e.ask.request.address != address {
+        return e;
+    }
+    let a = e.ask;
+    let m = e.mark;
+    let next = mark_withdrawn(m);
+    Entry {
+        ask: a,
+        start: e.start,
+        mark: next,
+    }
+}
+
+// The open entries of the address are withdrawn.
+pub(crate) fn all_withdrawn(p: Plan, address: u32) -> Plan
+    ensures { λ r. ⌜ r ≡ planWithdrawn address p ⌝ }
+{
+    let n = live(p.n, 128);
+    let mut out = p;
+    let mut i: usize = 0;
+    while i < n {
+        let x = out.list[i];
+        let y = withdraw(x, address);
+        out.list[i] = y;
+        i += 1;
+    }
+    out.n = n;
+    out
+}

@@ -1,0 +1,34 @@
+// The calls of the station of document 01: targets, requests, plans in force, replies and ages. Their definitions stand in crate histories.
+mod ages;
+mod calls;
+mod correcting;
+mod entries;
+mod planning;
+mod ranges;
+mod replies;
+mod setting;
+mod slots;
+mod targets;
+mod waiting;
+mod windows;
+
+pub use calls::add_target;
+pub use calls::move_target;
+pub use calls::remove_target;
+pub use calls::report_on;
+pub use calls::take_request;
+pub use entries::entry_count;
+pub use entries::entry_of;
+pub use histories::Answer;
+pub use histories::Plan;
+pub use histories::Reply;
+pub use histories::Report;
+pub use histories::Station;
+pub use histories::Target;
+pub use histories::Targets;
+pub use histories::Value;
+pub use histories::Waiting;
+pub use planning::plan_period;
+pub use replies::take_reply;
+pub use setting::blank;
+pub use setting::set_up;

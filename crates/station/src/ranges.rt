@@ -1,0 +1,52 @@
+// The ranges of a target and of a request.
+ghost use mathlib.Core.Path.{_≡_};
+ghost use Rattle.histories.specs.Calls.{targetRanged, requestRanged};
+use planner::Request;
+
+// Whether address, near and far of a target are in their ranges: near ≤ far ≤ R.
+pub(crate) fn target_ranged(address: u32, near: u16, far: u16, reach: u16) -> bool
+    ensures { λ r. ⌜ r ≡ targetRanged address near far reach ⌝ }
+{
+    if !frames::an_address(address) {
+        return false;
+    }
+    if far < near {
+        return false;
+    }
+    far <= reach
+}
+
+// A number of 8 bits among those of 32.
+pub(crate) fn byte(x: u8) -> u32
+    ensures { λ r. ⌜ r ≡ x ⌝ }
+{
+    x as u32
+}
+
+// A number of 16 bits among those of 32.
+pub(crate) fn wide(x: u16) -> u32
+    ensures { λ r. ⌜ r ≡ x ⌝ }
+{
+    x as u32
+}
+
+// Whether the numbers of a request are in their ranges.
+pub(crate) fn request_ranged(q: Request) -> bool
+    ensures { λ r. ⌜ r ≡ requestRanged q ⌝ }
+{
+    if 7 < q.unit {
+        return false;
+    }
+    let uf = byte(q.uf);
+    if !frames::surveillance(uf) {
+        return false;
+    }
+    let pc = byte(q.pc);
+    let rr = byte(q.rr);
+    let di = byte(q.di);
+    let sd = wide(q.sd);
+    if !frames::selective_ranged(uf, pc, rr, di, sd, q.ma, q.address) {
+        return false;
+    }
+    q.ma <= 0xFF_FFFF_FFFF_FFFF
+}

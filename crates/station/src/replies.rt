@@ -1,0 +1,159 @@
+// A reply to an entry of the plan in force: its checks in order, then by the correction.
+ghost use mathlib.Core.Path.{_≡_};
+ghost use mathlib.Core.Bool.{true};
+ghost use Prim.Native.Nat.{_<_};
+ghost use lib.ListN.{length};
+ghost use lib.IntN.{pos};
+ghost use Rattle.parity.specs.Correction.{sized};
+ghost use Rattle.histories.specs.State.{entriesOf};
+ghost use Rattle.histories.specs.Replies.{expected, holdsID, inWindow, saidIn, targetsHeard, entryNumbered, told, corrected, settled, replied};
+ghost use Rattle.station.specs.Trials.{refusal};
+use crate::correcting::correct_as;
+use crate::correcting::value_in;
+use crate::entries::answered;
+use crate::entries::entry_count;
+use crate::entries::entry_of;
+use crate::entries::is_open;
+use crate::ranges::byte;
+use crate::targets;
+use crate::windows::delay;
+use crate::windows::in_window;
+use crate::windows::start_of;
+use frames::Draws;
+use histories::Reply;
+use histories::Station;
+use histories::Target;
+use histories::Targets;
+use histories::Value;
+use planner::Request;
+
+// The format of the reply that a request expects.
+fn expected(q: Request) -> u8
+    ensures { λ r. ⌜ r ≡ expected q ⌝ }
+{
+    let d = frames::drawn(byte(q.uf), byte(q.rr));
+    match d {
+        Draws::Format(f) => f,
+        Draws::Nothing => 0,
+    }
+}
+
+// Whether a format holds ID; it is AC else.
+fn holds_id(f: u8) -> bool
+    ensures { λ r. ⌜ r ≡ holdsID f ⌝ }
+{
+    if f == 5 {
+        return true;
+    }
+    f == 21
+}
+
+// A target that said a value just now, in a reply of this format.
+fn said_in(f: u8, v: u16, x: Target) -> Target
+    ensures { λ r. ⌜ r ≡ saidIn f v x ⌝ }
+{
+    if holds_id(f) {
+        let ac = x.ac;
+        return Target {
+            address: x.address,
+            near: x.near,
+            far: x.far,
+            ac: ac,
+            id: Value::Heard { value: v, age: 0 },
+        };
+    }
+    let id = x.id;
+    Target {
+        address: x.address,
+        near: x.near,
+        far: x.far,
+        ac: Value::Heard { value: v, age: 0 },
+        id: id,
+    }
+}
+
+// The targets after the one of the request said a value.
+fn hear(t: Targets, q: Request, v: u16) -> Targets
+    ensures { λ r. ⌜ r ≡ targetsHeard q v t ⌝ }
+{
+    if !targets::in_list(t, q.address) {
+        return t;
+    }
+    let x = targets::target_at(t, q.address);
+    let y = said_in(expected(q), v, x);
+    targets::put(t, q.address, y)
+}
+
+// The number of a refused reply alone; the station is as it was.
+fn refused(number: u8, s: Station) -> Reply
+    ensures { λ r. ⌜ r ≡ refusal number s ⌝ }
+{
+    Reply {
+        number: number,
+        flips: 0,
+        delay: 0,
+        station: s,
+    }
+}
+
+// A reply that has passed the checks before the correction, by the correction.
+fn settle(s: Station, entry: usize, start: u32, msg: &[u8], marks: &[u8], out: &mut [u8]) -> Reply
+    requires { ⌜ sized (length (now msg)) (length (now marks)) (length (now out)) ≡ true ⌝ }
+    requires { ⌜ entry < length (entriesOf (s .plan)) ⌝ }
+    requires { ⌜ inWindow (entryNumbered entry s) start ≡ true ⌝ }
+    ensures { λ r. ⌜ told r (now (out .exit)) ≡ settled entry start (now (out .entry)) (corrected entry (now (msg .entry)) (now (marks .entry)) (now (out .entry)) s) s ⌝ }
+{
+    let p = s.plan;
+    let e = entry_of(p, entry);
+    let a = e.ask;
+    let q = a.request;
+    let f = correct_as(msg, marks, q.address, byte(s.setup.limit), expected(q), out);
+    if f.number != 0 {
+        return refused(f.number, s);
+    }
+    let v = value_in(out);
+    let mut next = s;
+    next.targets = hear(s.targets, q, v);
+    next.plan = answered(p, entry);
+    Reply {
+        number: 0,
+        flips: f.flips,
+        delay: delay(e, start),
+        station: next,
+    }
+}
+
+// A reply: 1 for the lengths, 7 for no such entry, 8 for an entry answered or withdrawn, 9 for another length than expected,
+// 10 outside its window; then by the correction.
+pub fn take_reply(
+    s: Station,
+    entry: usize,
+    tag: u32,
+    msg: &[u8],
+    marks: &[u8],
+    out: &mut [u8],
+) -> Reply
+    ensures { λ r. ⌜ told r (now (out .exit)) ≡ replied s entry tag (now (msg .entry)) (now (marks .entry)) (now (out .entry)) ⌝ }
+{
+    if !parity::fitting(msg.len(), marks.len(), out.len()) {
+        return refused(1, s);
+    }
+    let p = s.plan;
+    if entry_count(p) <= entry {
+        return refused(7, s);
+    }
+    let e = entry_of(p, entry);
+    let m = e.mark;
+    if !is_open(m) {
+        return refused(8, s);
+    }
+    let a = e.ask;
+    if msg.len() != frames::length_of(byte(expected(a.request))) {
+        return refused(9, s);
+    }
+    let start = start_of(tag, p.tag);
+    if !in_window(e, start) {
+        return refused(10, s);
+    }
+    settle(s, entry, start, msg, marks, out)
+}
