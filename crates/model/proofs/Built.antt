@@ -15,8 +15,8 @@ use Rattle.parity.specs.declared.answers.Reckoned.the-variants as is
 use Rattle.frames.specs.Answers.{Outcome, said}
 use Rattle.frames.specs.declared.answers.Built.{Built}
 use Rattle.frames.specs.declared.answers.Built.the-variants.{Done, Length, Range}
-use Rattle.model.specs.Replies.{silence, sentBytes, sending}
-use Rattle.model.specs.Calls.{laidOver}
+use Rattle.transponder.specs.Replies.{silence, sentBytes, sending}
+use Rattle.transponder.specs.Calls.{laidOver}
 use Rattle.model.proofs.Slots.{fourteen}
 
 -- ---- a frame that was built, or not

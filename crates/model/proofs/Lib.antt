@@ -1,8 +1,4 @@
--- The laws of the crate: timers, draws, what a frame does, and who holds.
+-- What the proofs of the code share: slots, builders' answers, and each step check by check.
 pub mod Slots
 pub mod Built
 pub mod Steps
-pub mod Timing
-pub mod Draws
-pub mod Came
-pub mod Holding

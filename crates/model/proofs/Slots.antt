@@ -9,14 +9,14 @@ use lib.Dec.{leb}
 use borrow.Author.Tests.{leb-true}
 use Rattle.lists.proofs.Tests.{and-true}
 use Rattle.frames.specs.Building.{anAddress}
-use Rattle.model.specs.declared.state.Lock.the-variants.{Since}
-use Rattle.model.specs.declared.state.Timer.{Timer}
-use Rattle.model.specs.declared.state.Timers.{Timers}
-use Rattle.model.specs.declared.state.Sent.{Sent}
-use Rattle.model.specs.State.{started}
-use Rattle.model.specs.Lapse.{timerAfter, timersAfter}
-use Rattle.model.specs.Replies.{sentBytes}
-use Rattle.model.specs.Calls.{makeRanged}
+use Rattle.transponder.specs.declared.state.Lock.the-variants.{Since}
+use Rattle.transponder.specs.declared.state.Timer.{Timer}
+use Rattle.transponder.specs.declared.state.Timers.{Timers}
+use Rattle.transponder.specs.declared.state.Sent.{Sent}
+use Rattle.transponder.specs.State.{started}
+use Rattle.transponder.specs.Lapse.{timerAfter, timersAfter}
+use Rattle.transponder.specs.Replies.{sentBytes}
+use Rattle.transponder.specs.Calls.{makeRanged}
 use lib.ListN.{length, getD, drop, set, replicate, drop-of-length-le}
 use lib.Seq.{drop-cons, set-out}
 use Rattle.lists.specs.Lists.{over}

@@ -19,21 +19,21 @@ use Rattle.frames.specs.declared.answers.Up.{Up}
 use Rattle.frames.specs.declared.answers.Up.the-variants as up
 use Rattle.frames.specs.declared.answers.Interrogator.{Interrogator}
 use Rattle.frames.specs.declared.answers.Draws.the-variants.{Format, Nothing}
-use Rattle.model.specs.declared.state.Timer.{Timer}
-use Rattle.model.specs.declared.state.Timers.{Timers}
-use Rattle.model.specs.declared.state.Holder.{Holder}
-use Rattle.model.specs.declared.state.Holder.the-variants.{Nobody, Held}
-use Rattle.model.specs.declared.state.Messages.{Messages}
-use Rattle.model.specs.declared.state.Transponder.{Transponder}
-use Rattle.model.specs.declared.state.Sent.{Sent}
-use Rattle.model.specs.declared.state.Went.{Went}
-use Rattle.model.specs.declared.state.Took.{Took}
-use Rattle.model.specs.State.{placeOf, idle, waiting, waits, messagesWith, messagesAfter, keeping, withMessages}
-use Rattle.model.specs.Lapse.{timersAfter, holderAfter, lapse}
-use Rattle.model.specs.Lockout.{iis, locks, lockedTo, lockout}
-use Rattle.model.specs.CommB.{asksToHold, nobodyElse, reserve, closes, closeout}
-use Rattle.model.specs.Replies.{silence, sending, drOf, umOf, mbOf, valueOf, respond, answersCode, answers, answerAllCall}
-use Rattle.model.specs.Calls.{queuing, steps, interrogated, laidOver, heardSelective, heardAllCall, heard, refusing, taking}
+use Rattle.transponder.specs.declared.state.Timer.{Timer}
+use Rattle.transponder.specs.declared.state.Timers.{Timers}
+use Rattle.transponder.specs.declared.state.Holder.{Holder}
+use Rattle.transponder.specs.declared.state.Holder.the-variants.{Nobody, Held}
+use Rattle.transponder.specs.declared.state.Messages.{Messages}
+use Rattle.transponder.specs.declared.state.Transponder.{Transponder}
+use Rattle.transponder.specs.declared.state.Sent.{Sent}
+use Rattle.transponder.specs.declared.state.Went.{Went}
+use Rattle.transponder.specs.declared.state.Took.{Took}
+use Rattle.transponder.specs.State.{placeOf, idle, waiting, waits, messagesWith, messagesAfter, keeping, withMessages}
+use Rattle.transponder.specs.Lapse.{timersAfter, holderAfter, lapse}
+use Rattle.transponder.specs.Lockout.{iis, locks, lockedTo, lockout}
+use Rattle.transponder.specs.CommB.{asksToHold, nobodyElse, reserve, closes, closeout}
+use Rattle.transponder.specs.Replies.{silence, sending, drOf, umOf, mbOf, valueOf, respond, answersCode, answers, answerAllCall}
+use Rattle.transponder.specs.Calls.{queuing, steps, interrogated, laidOver, heardSelective, heardAllCall, heard, refusing, taking}
 
 -- ---- time
 pub lapse-is : (u t : Transponder) (now : ℕ) (x : Timers) (h : Holder) → x ≡ timersAfter now (t .timers) → h ≡ holderAfter now (t .holder) → u ≡ keeping t now x h (t .messages) → u ≡ lapse now t

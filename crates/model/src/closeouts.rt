@@ -1,11 +1,11 @@
 // The closeout of the first message.
 ghost use mathlib.Core.Path.{_≡_};
-ghost use Rattle.model.specs.CommB.{closesFor, closes, closeout};
+ghost use Rattle.transponder.specs.CommB.{closesFor, closes, closeout};
 use crate::keeping::keeping;
 use crate::lockouts::iis;
 use crate::messages::drop_first;
-use crate::state::Holder;
-use crate::state::Transponder;
+use transponder::Holder;
+use transponder::Transponder;
 
 // Whether DI and SD close out what an II holds.
 fn closes_for(ii: u8, di: u8, sd: u16) -> bool

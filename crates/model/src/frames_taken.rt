@@ -2,15 +2,15 @@
 ghost use mathlib.Core.Path.{_≡_};
 ghost use Rattle.parity.specs.Messages.{whole};
 ghost use Rattle.frames.specs.Reading.{readUp};
-ghost use Rattle.model.specs.Calls.{heard, refusing, taking};
+ghost use Rattle.transponder.specs.Calls.{heard, refusing, taking};
 use crate::lapses::lapse;
 use crate::selective::heard_all_call;
 use crate::selective::heard_selective;
 use crate::sending::silence;
-use crate::state::Took;
-use crate::state::Transponder;
-use crate::state::Went;
 use frames::Up;
+use transponder::Took;
+use transponder::Transponder;
+use transponder::Went;
 
 // What a frame does once time has lapsed.
 fn hear(draw: u32, t: Transponder, frame: &[u8]) -> Went

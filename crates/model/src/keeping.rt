@@ -1,10 +1,10 @@
 // A transponder with another time, other timers, another holder, other messages.
 ghost use mathlib.Core.Path.{_≡_};
-ghost use Rattle.model.specs.State.{keeping};
-use crate::state::Holder;
-use crate::state::Messages;
-use crate::state::Timers;
-use crate::state::Transponder;
+ghost use Rattle.transponder.specs.State.{keeping};
+use transponder::Holder;
+use transponder::Messages;
+use transponder::Timers;
+use transponder::Transponder;
 
 // What it was made with stays.
 pub(crate) fn keeping(

@@ -1,12 +1,12 @@
 // Time lapses: timers and the reservation fall away, and leave no trace.
 ghost use mathlib.Core.Path.{_≡_};
-ghost use Rattle.model.specs.Lapse.{isOver, timerAfter, timersAfter, holderAfter, lapse};
+ghost use Rattle.transponder.specs.Lapse.{isOver, timerAfter, timersAfter, holderAfter, lapse};
 use crate::keeping::keeping;
-use crate::state::Holder;
-use crate::state::Lock;
-use crate::state::Timer;
-use crate::state::Timers;
-use crate::state::Transponder;
+use transponder::Holder;
+use transponder::Lock;
+use transponder::Timer;
+use transponder::Timers;
+use transponder::Transponder;
 
 // Whether what began then is over by now.
 fn is_over(now: u32, since: u32) -> bool

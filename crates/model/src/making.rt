@@ -1,14 +1,14 @@
 // A transponder is made.
 ghost use mathlib.Core.Path.{_≡_};
 ghost use Prim.Native.Nat.{_<_};
-ghost use Rattle.model.specs.Calls.{makeRanged, newborn, making};
-use crate::state::Holder;
-use crate::state::Lock;
-use crate::state::Made;
-use crate::state::Messages;
-use crate::state::Timer;
-use crate::state::Timers;
-use crate::state::Transponder;
+ghost use Rattle.transponder.specs.Calls.{makeRanged, newborn, making};
+use transponder::Holder;
+use transponder::Lock;
+use transponder::Made;
+use transponder::Messages;
+use transponder::Timer;
+use transponder::Timers;
+use transponder::Transponder;
 
 // Whether the numbers of a transponder are in their ranges.
 fn make_ranged(address: u32, ac: u32, id: u32, fs: u32, ca: u32) -> bool

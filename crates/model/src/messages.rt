@@ -3,11 +3,11 @@ ghost use mathlib.Core.Path.{_≡_};
 ghost use Prim.Native.Nat.{_<_, _≤_};
 ghost use lib.ListN.{length};
 ghost use Rattle.frames.specs.Bytes.{numberOf};
-ghost use Rattle.model.specs.State.{waiting, waits, firstOf, messagesWith, messagesAfter};
-ghost use Rattle.model.specs.Calls.{queuing};
-use crate::state::Messages;
-use crate::state::Queued;
-use crate::state::Transponder;
+ghost use Rattle.transponder.specs.State.{waiting, waits, firstOf, messagesWith, messagesAfter};
+ghost use Rattle.transponder.specs.Calls.{queuing};
+use transponder::Messages;
+use transponder::Queued;
+use transponder::Transponder;
 
 // How many messages wait: the count, or all slots where the count is too large.
 fn count(m: Messages) -> usize

@@ -1,11 +1,11 @@
 // The reservation of the first message.
 ghost use mathlib.Core.Path.{_≡_};
-ghost use Rattle.model.specs.CommB.{asksToHold, nobodyElse, reserve};
+ghost use Rattle.transponder.specs.CommB.{asksToHold, nobodyElse, reserve};
 use crate::keeping::keeping;
 use crate::lockouts::iis;
 use crate::messages::waits;
-use crate::state::Holder;
-use crate::state::Transponder;
+use transponder::Holder;
+use transponder::Transponder;
 
 // Whether DI and SD ask for the reservation.
 fn asks_to_hold(di: u8, sd: u16) -> bool

@@ -1,15 +1,15 @@
 // The reply to a selective interrogation.
 ghost use mathlib.Core.Path.{_≡_};
-ghost use Rattle.model.specs.Replies.{drOf, hidesUM, umOf, bds2, mbOf, valueOf, respond};
+ghost use Rattle.transponder.specs.Replies.{drOf, hidesUM, umOf, bds2, mbOf, valueOf, respond};
 use crate::messages::first_of;
 use crate::messages::waits;
 use crate::sending::send;
 use crate::sending::silence;
-use crate::state::Holder;
-use crate::state::Messages;
-use crate::state::Sent;
-use crate::state::Transponder;
 use frames::Draws;
+use transponder::Holder;
+use transponder::Messages;
+use transponder::Sent;
+use transponder::Transponder;
 
 // DR.
 fn dr_of(m: Messages) -> u32

@@ -3,9 +3,9 @@ ghost use mathlib.Core.Path.{_≡_};
 ghost use lib.ListN.{replicate};
 ghost use Rattle.frames.specs.Building.{replying, allCallReplying};
 ghost use Rattle.frames.specs.Formats.{lengthOf};
-ghost use Rattle.model.specs.Replies.{silence, sentBytes, sending};
-use crate::state::Sent;
+ghost use Rattle.transponder.specs.Replies.{silence, sentBytes, sending};
 use frames::Built;
+use transponder::Sent;
 
 // No reply.
 pub(crate) fn silence() -> Sent

@@ -2,7 +2,7 @@
 -- Assumes nothing.
 use borrow.Author.Tests.{le-leb, lt-leb}
 use native.Mathlib.Omega.{arith}
-use Rattle.model.specs.Replies.{drawsBelow}
+use Rattle.transponder.specs.Replies.{drawsBelow}
 use borrow.Author.Needs.{needs}
 use Rattle.model.proofs.all_calls.draws_below.Statement.{statement}
 use Rattle.model.proofs.all_calls.draws_below.Tie as tie

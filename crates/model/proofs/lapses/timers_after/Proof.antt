@@ -5,7 +5,7 @@ use native.Mathlib.Omega.{arith}
 use Prim.Native.Nat.{_-_, _≤_}
 use lib.ListN.{length}
 use Rattle.lists.proofs.Front.{length-mapped}
-use Rattle.model.specs.Lapse.{timerAfter}
+use Rattle.transponder.specs.Lapse.{timerAfter}
 use Rattle.model.proofs.Slots.{timers-are}
 use Rattle.lists.proofs.Mapped.{Mapped, mapped-none, mapped-more, mapped-all}
 use borrow.Author.Needs.{needs}

@@ -2,7 +2,7 @@
 -- Assumes nothing.
 use borrow.Author.Tests.{eq-eqb, ne-eqb}
 use mathlib.Core.Path.{_∙_}
-use Rattle.model.specs.Lockout.{commandOfSD}
+use Rattle.transponder.specs.Lockout.{commandOfSD}
 use borrow.Author.Needs.{needs}
 use Rattle.model.proofs.lockouts.command_of_sd.Statement.{statement}
 use Rattle.model.proofs.lockouts.command_of_sd.Tie as tie

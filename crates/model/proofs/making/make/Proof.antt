@@ -3,7 +3,7 @@
 use borrow.Author.Tests.{not-true, not-false}
 use mathlib.Core.Path.{sym, _∙_}
 use native.Mathlib.Omega.{arith}
-use Rattle.model.specs.Calls.{making}
+use Rattle.transponder.specs.Calls.{making}
 use Rattle.model.proofs.Slots.{make-in}
 use borrow.Author.Needs.{needs}
 use Rattle.model.proofs.making.make.Statement.{statement}

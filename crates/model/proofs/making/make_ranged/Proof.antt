@@ -2,7 +2,7 @@
 -- Assumes nothing.
 use borrow.Author.Tests.{le-leb, lt-leb}
 use native.Mathlib.Omega.{arith}
-use Rattle.model.specs.Calls.{makeRanged}
+use Rattle.transponder.specs.Calls.{makeRanged}
 use Rattle.model.proofs.making.make_ranged.Statement.{statement}
 use Rattle.model.proofs.making.make_ranged.Tie as tie
 

@@ -4,7 +4,7 @@ use borrow.Author.Tests.{eq-eqb, ne-eqb}
 use mathlib.Core.Path.{_≡_, sym, _∙_}
 use Prim.Native.Nat.{_-_}
 use lib.ListN.{length}
-use Rattle.model.specs.State.{waiting, messagesAfter}
+use Rattle.transponder.specs.State.{waiting, messagesAfter}
 use Rattle.model.proofs.Slots.{moved-up}
 use borrow.Author.Needs.{needs}
 use Rattle.model.proofs.messages.drop_first.Statement.{statement}

@@ -5,7 +5,7 @@ use native.Mathlib.Omega.{arith}
 use Prim.Native.Nat.{_-_}
 use lib.ListN.{length-take, List·getD-eq-default}
 use lib.Seq.{getD-take}
-use Rattle.model.specs.State.{waiting}
+use Rattle.transponder.specs.State.{waiting}
 use borrow.Author.Needs.{needs}
 use Rattle.model.proofs.messages.first_of.Statement.{statement}
 use Rattle.model.proofs.messages.first_of.Tie as tie

@@ -4,7 +4,7 @@ use mathlib.Core.Path.{_≡_}
 use native.Mathlib.Omega.{arith}
 use Prim.Native.Nat.{_-_}
 use lib.ListN.{length}
-use Rattle.model.specs.State.{messagesWith}
+use Rattle.transponder.specs.State.{messagesWith}
 use Rattle.lists.proofs.Over.{front-push}
 use borrow.Author.Needs.{needs}
 use Rattle.model.proofs.messages.push.Statement.{statement}

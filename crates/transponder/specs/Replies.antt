@@ -16,13 +16,13 @@ use Rattle.frames.specs.declared.answers.Interrogator.{Interrogator}
 use Rattle.frames.specs.declared.answers.Interrogator.the-variants as code
 use Rattle.frames.specs.declared.answers.Draws.{Draws}
 use Rattle.frames.specs.declared.answers.Draws.the-variants.{Format, Nothing}
-use Rattle.model.specs.declared.state.Holder.{Holder}
-use Rattle.model.specs.declared.state.Holder.the-variants.{Nobody, Held}
-use Rattle.model.specs.declared.state.Messages.{Messages}
-use Rattle.model.specs.declared.state.Sent.{Sent}
-use Rattle.model.specs.declared.state.Transponder.{Transponder}
-use Rattle.model.specs.State.{waits, firstOf}
-use Rattle.model.specs.Lockout.{lockedTo}
+use Rattle.transponder.specs.declared.state.Holder.{Holder}
+use Rattle.transponder.specs.declared.state.Holder.the-variants.{Nobody, Held}
+use Rattle.transponder.specs.declared.state.Messages.{Messages}
+use Rattle.transponder.specs.declared.state.Sent.{Sent}
+use Rattle.transponder.specs.declared.state.Transponder.{Transponder}
+use Rattle.transponder.specs.State.{waits, firstOf}
+use Rattle.transponder.specs.Lockout.{lockedTo}
 
 -- ---- sending
 -- no reply

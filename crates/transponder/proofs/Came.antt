@@ -14,12 +14,12 @@ use Rattle.frames.specs.Formats.{lengthOf}
 use Rattle.frames.specs.Shared.{drawn}
 use Rattle.frames.specs.Reading.{readUp}
 use Rattle.frames.specs.declared.answers.Draws.the-variants.{Format}
-use Rattle.model.specs.declared.state.Transponder.{Transponder}
-use Rattle.model.specs.declared.state.Went.{Went}
-use Rattle.model.specs.declared.state.Took.{Took}
-use Rattle.model.specs.Lapse.{lapse}
-use Rattle.model.specs.Replies.{sending, drOf, umOf, mbOf, valueOf, respond, answerAllCall}
-use Rattle.model.specs.Calls.{steps, interrogated, unmoved, laidOver, heardSelective, heardAllCall, heard, done, refusing, taking}
+use Rattle.transponder.specs.declared.state.Transponder.{Transponder}
+use Rattle.transponder.specs.declared.state.Went.{Went}
+use Rattle.transponder.specs.declared.state.Took.{Took}
+use Rattle.transponder.specs.Lapse.{lapse}
+use Rattle.transponder.specs.Replies.{sending, drOf, umOf, mbOf, valueOf, respond, answerAllCall}
+use Rattle.transponder.specs.Calls.{steps, interrogated, unmoved, laidOver, heardSelective, heardAllCall, heard, done, refusing, taking}
 
 -- what holds of both holds of either
 pub of-pick : {A : Type 0} (P : A → Type 0) (b : Bool) (x y : A) → P x → P y → P (pick b x y)

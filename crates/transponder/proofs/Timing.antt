@@ -9,11 +9,11 @@ use lib.ListN.{length, getD, List·getD-map}
 use lib.Seq.{getD-set-same, getD-set-other}
 use Rattle.frames.specs.declared.answers.Interrogator.{Interrogator}
 use Rattle.frames.specs.declared.answers.Interrogator.the-variants.{II, SI}
-use Rattle.model.specs.declared.state.Lock.the-variants.{Since}
-use Rattle.model.specs.declared.state.Timers.{Timers}
-use Rattle.model.specs.State.{placeOf, idle, started}
-use Rattle.model.specs.Lapse.{timerAfter, timersAfter}
-use Rattle.model.specs.Lockout.{lockedTo}
+use Rattle.transponder.specs.declared.state.Lock.the-variants.{Since}
+use Rattle.transponder.specs.declared.state.Timers.{Timers}
+use Rattle.transponder.specs.State.{placeOf, idle, started}
+use Rattle.transponder.specs.Lapse.{timerAfter, timersAfter}
+use Rattle.transponder.specs.Lockout.{lockedTo}
 
 -- what stands at a code's place after a lapse is what stood there, lapsed
 at-place : (code : Interrogator) (now : ℕ) (t : Timers) → getD (timersAfter now t .list) (placeOf code) idle ≡ timerAfter now (getD (t .list) (placeOf code) idle)

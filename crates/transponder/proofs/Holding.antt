@@ -11,16 +11,16 @@ use borrow.Author.Tests.{ne-eqb}
 use Rattle.lists.specs.Lists.{pick}
 use Rattle.lists.proofs.Over.{take-over}
 use Rattle.lists.proofs.Tests.{and-true}
-use Rattle.model.specs.declared.state.Holder.{Holder}
-use Rattle.model.specs.declared.state.Holder.the-variants.{Nobody, Held}
-use Rattle.model.specs.declared.state.Messages.{Messages}
-use Rattle.model.specs.declared.state.Transponder.{Transponder}
-use Rattle.model.specs.State.{waiting, waits, messagesWith, messagesAfter, withHolder, withMessages}
-use Rattle.model.specs.Lapse.{isOver, holderAfter, lapse}
-use Rattle.model.specs.Lockout.{iis, commanded, lockout}
-use Rattle.model.specs.CommB.{asksToHold, nobodyElse, reserve, closes, closeout}
-use Rattle.model.specs.Calls.{newborn, steps, taking}
-use Rattle.model.proofs.Came.{of-pick, Came, same, lapsed, stepped, what-a-frame-does}
+use Rattle.transponder.specs.declared.state.Holder.{Holder}
+use Rattle.transponder.specs.declared.state.Holder.the-variants.{Nobody, Held}
+use Rattle.transponder.specs.declared.state.Messages.{Messages}
+use Rattle.transponder.specs.declared.state.Transponder.{Transponder}
+use Rattle.transponder.specs.State.{waiting, waits, messagesWith, messagesAfter, withHolder, withMessages}
+use Rattle.transponder.specs.Lapse.{isOver, holderAfter, lapse}
+use Rattle.transponder.specs.Lockout.{iis, commanded, lockout}
+use Rattle.transponder.specs.CommB.{asksToHold, nobodyElse, reserve, closes, closeout}
+use Rattle.transponder.specs.Calls.{newborn, steps, taking}
+use Rattle.transponder.proofs.Came.{of-pick, Came, same, lapsed, stepped, what-a-frame-does}
 
 -- ---- one message less
 front : (k : ℕ) (xs ys : List ℕ) → take (length (take k xs)) (xs ++ ys) ≡ take k xs

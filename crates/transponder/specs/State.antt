@@ -8,12 +8,12 @@ use lib.ListN.{length, take, drop, set, getD}
 use Rattle.lists.specs.Lists.{pick, over}
 use Rattle.frames.specs.declared.answers.Interrogator.{Interrogator}
 use Rattle.frames.specs.declared.answers.Interrogator.the-variants.{II, SI, Nobody}
-use Rattle.model.specs.declared.state.Lock.the-variants.{Never, Since}
-use Rattle.model.specs.declared.state.Timer.{Timer}
-use Rattle.model.specs.declared.state.Timers.{Timers}
-use Rattle.model.specs.declared.state.Holder.{Holder}
-use Rattle.model.specs.declared.state.Messages.{Messages}
-use Rattle.model.specs.declared.state.Transponder.{Transponder}
+use Rattle.transponder.specs.declared.state.Lock.the-variants.{Never, Since}
+use Rattle.transponder.specs.declared.state.Timer.{Timer}
+use Rattle.transponder.specs.declared.state.Timers.{Timers}
+use Rattle.transponder.specs.declared.state.Holder.{Holder}
+use Rattle.transponder.specs.declared.state.Messages.{Messages}
+use Rattle.transponder.specs.declared.state.Transponder.{Transponder}
 
 -- ---- "each of 79 timers (II 0-15, SI 1-63)"
 -- the place of a code's timer; nobody's code has none, and 79 is beyond the last

@@ -8,11 +8,11 @@ use Rattle.lists.specs.Lists.{pick}
 use Rattle.frames.specs.Fields.{bitsTo, valueAt}
 use Rattle.frames.specs.declared.answers.Interrogator.{Interrogator}
 use Rattle.frames.specs.declared.answers.Interrogator.the-variants.{II, SI, Nobody}
-use Rattle.model.specs.declared.state.Lock.{Lock}
-use Rattle.model.specs.declared.state.Lock.the-variants.{Never, Since}
-use Rattle.model.specs.declared.state.Timers.{Timers}
-use Rattle.model.specs.declared.state.Transponder.{Transponder}
-use Rattle.model.specs.State.{placeOf, idle, started, withTimers}
+use Rattle.transponder.specs.declared.state.Lock.{Lock}
+use Rattle.transponder.specs.declared.state.Lock.the-variants.{Never, Since}
+use Rattle.transponder.specs.declared.state.Timers.{Timers}
+use Rattle.transponder.specs.declared.state.Transponder.{Transponder}
+use Rattle.transponder.specs.State.{placeOf, idle, started, withTimers}
 
 -- ---- the fields of SD that lockout reads; SD is bits 17 to 32
 -- "the II in bits 17-20"

@@ -11,17 +11,17 @@ use Rattle.parity.specs.Overlays.{overlayOf}
 use Rattle.frames.specs.Building.{anAddress}
 use Rattle.frames.specs.Bytes.{numberOf}
 use Rattle.frames.specs.Reading.{readUp}
-use Rattle.model.specs.declared.state.Holder.the-variants.{Nobody}
-use Rattle.model.specs.declared.state.Transponder.{Transponder}
-use Rattle.model.specs.declared.state.Made.{Made}
-use Rattle.model.specs.declared.state.Queued.{Queued}
-use Rattle.model.specs.declared.state.Went.{Went}
-use Rattle.model.specs.declared.state.Took.{Took}
-use Rattle.model.specs.State.{idle, waiting, messagesWith, withMessages}
-use Rattle.model.specs.Lapse.{lapse}
-use Rattle.model.specs.Lockout.{lockout}
-use Rattle.model.specs.CommB.{reserve, closeout}
-use Rattle.model.specs.Replies.{silence, respond, answerAllCall}
+use Rattle.transponder.specs.declared.state.Holder.the-variants.{Nobody}
+use Rattle.transponder.specs.declared.state.Transponder.{Transponder}
+use Rattle.transponder.specs.declared.state.Made.{Made}
+use Rattle.transponder.specs.declared.state.Queued.{Queued}
+use Rattle.transponder.specs.declared.state.Went.{Went}
+use Rattle.transponder.specs.declared.state.Took.{Took}
+use Rattle.transponder.specs.State.{idle, waiting, messagesWith, withMessages}
+use Rattle.transponder.specs.Lapse.{lapse}
+use Rattle.transponder.specs.Lockout.{lockout}
+use Rattle.transponder.specs.CommB.{reserve, closeout}
+use Rattle.transponder.specs.Replies.{silence, respond, answerAllCall}
 
 -- ---- a making
 -- time 0, nothing commanded, nobody holds, nothing waits

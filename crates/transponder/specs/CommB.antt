@@ -4,11 +4,11 @@ use mathlib.Core.Bool.{Bool, true, _&&_}
 use lib.Dec.{eqb, leb}
 use Rattle.lists.specs.Lists.{pick}
 use Rattle.frames.specs.Fields.{bitsTo, valueAt}
-use Rattle.model.specs.declared.state.Holder.{Holder}
-use Rattle.model.specs.declared.state.Holder.the-variants.{Nobody, Held}
-use Rattle.model.specs.declared.state.Transponder.{Transponder}
-use Rattle.model.specs.State.{waits, messagesAfter, withHolder, withMessages}
-use Rattle.model.specs.Lockout.{iis}
+use Rattle.transponder.specs.declared.state.Holder.{Holder}
+use Rattle.transponder.specs.declared.state.Holder.the-variants.{Nobody, Held}
+use Rattle.transponder.specs.declared.state.Transponder.{Transponder}
+use Rattle.transponder.specs.State.{waits, messagesAfter, withHolder, withMessages}
+use Rattle.transponder.specs.Lockout.{iis}
 
 -- "MBS (bits 21-22)"
 abbrev pub mbs : ℕ → ℕ

@@ -11,9 +11,9 @@ use Rattle.lists.proofs.Tests.{and-true, and-yes}
 use Rattle.frames.specs.Shared.{codeFor}
 use Rattle.frames.specs.declared.answers.Interrogator.{Interrogator}
 use Rattle.frames.specs.declared.answers.Interrogator.the-variants.{II, SI, Nobody}
-use Rattle.model.specs.declared.state.Transponder.{Transponder}
-use Rattle.model.specs.Lockout.{lockedTo}
-use Rattle.model.specs.Replies.{drawsBelow, free, answersFree, answersCode, answers}
+use Rattle.transponder.specs.declared.state.Transponder.{Transponder}
+use Rattle.transponder.specs.Lockout.{lockedTo}
+use Rattle.transponder.specs.Replies.{drawsBelow, free, answersFree, answersCode, answers}
 
 -- how many of the 16 draws answer a PR
 abbrev pub answering : ℕ → ℕ

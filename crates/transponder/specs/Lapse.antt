@@ -5,14 +5,14 @@ use mathlib.Core.Bool.{Bool}
 use mathlib.Core.List.{map}
 use lib.Dec.{leb}
 use Rattle.lists.specs.Lists.{pick}
-use Rattle.model.specs.declared.state.Lock.{Lock}
-use Rattle.model.specs.declared.state.Lock.the-variants.{Never, Since}
-use Rattle.model.specs.declared.state.Timer.{Timer}
-use Rattle.model.specs.declared.state.Timers.{Timers}
-use Rattle.model.specs.declared.state.Holder.{Holder}
-use Rattle.model.specs.declared.state.Holder.the-variants.{Nobody, Held}
-use Rattle.model.specs.declared.state.Transponder.{Transponder}
-use Rattle.model.specs.State.{keeping}
+use Rattle.transponder.specs.declared.state.Lock.{Lock}
+use Rattle.transponder.specs.declared.state.Lock.the-variants.{Never, Since}
+use Rattle.transponder.specs.declared.state.Timer.{Timer}
+use Rattle.transponder.specs.declared.state.Timers.{Timers}
+use Rattle.transponder.specs.declared.state.Holder.{Holder}
+use Rattle.transponder.specs.declared.state.Holder.the-variants.{Nobody, Held}
+use Rattle.transponder.specs.declared.state.Transponder.{Transponder}
+use Rattle.transponder.specs.State.{keeping}
 
 -- how long a lock and a reservation last, in tenths of a second
 abbrev pub lasting : ℕ
