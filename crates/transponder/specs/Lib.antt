@@ -1,7 +1,9 @@
--- The definitions: the state, and the steps of document 01 in their order.
+-- The definitions: the state, the steps of document 01 in their order, histories of calls, and examples at the edges.
 pub mod State
 pub mod Lapse
 pub mod Lockout
 pub mod CommB
 pub mod Replies
 pub mod Calls
+pub mod History
+pub mod Examples

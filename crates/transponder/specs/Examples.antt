@@ -1,0 +1,156 @@
+-- Examples at the edges of the transponder model, as one listing: what the definitions give beside what document 01 says, worked by hand.
+-- Assumes nothing.
+use Prim.Native.Nat.{ℕ, _+_, _<_}
+use native.Mathlib.Omega.{arith}
+use mathlib.Core.Path.{refl}
+use mathlib.Core.List.{List, [], _∷_, _++_}
+use lib.ListN.{getD, take, replicate}
+use Rattle.lists.specs.Lists.{over}
+use Rattle.lists.specs.Listing.{Row, row, Agrees}
+use Rattle.parity.specs.Messages.{bits, AreBytes}
+use Rattle.parity.specs.Division.{shiftIn, divide, remainderOf}
+use Rattle.parity.specs.Overlays.{lowBits, times, overlayOf}
+use Rattle.frames.specs.Building as frames
+use Rattle.frames.specs.Fields.{bitsTo, laid, headOf, midOf, selectiveHead, allCallHead, replyHead, allCallReplyHead}
+use Rattle.frames.specs.Frames.{front, sealed}
+use Rattle.frames.specs.Reading.{readAs, readDown, selectiveRead, allCallRead, surveillanceRead}
+use Rattle.frames.specs.Shared.{codeFor, drawn}
+use Rattle.transponder.specs.State.{started, messagesWith, messagesAfter}
+use Rattle.transponder.specs.Lapse.{timerAfter, timersAfter, lapse}
+use Rattle.transponder.specs.Lockout.{startedByLOS, startedByLSS, commandOfSD, commanded, lockout, lockedTo}
+use Rattle.transponder.specs.CommB.{reserve, closeout}
+use Rattle.transponder.specs.Replies.{sending, respond, drawsBelow, answers, answerAllCall}
+use Rattle.transponder.specs.Calls.{newborn, makeRanged, making, queuing, steps, interrogated, laidOver, heardSelective, heardAllCall, taking}
+use Rattle.transponder.specs.History as history
+use Rattle.transponder.specs.History.{Aircraft, Call, after}
+
+-- ---- the aircraft, and its calls
+abbrev aircraft : Aircraft
+aircraft = record { address = 0x484FDE; ac = 0x1718; id = 0x092D; fs = 0; ca = 5 }
+
+-- UF 4 for it, with PC, RR, DI and SD
+abbrev asking : ℕ → ℕ → ℕ → ℕ → List ℕ
+asking pc rr di sd = frames.selective 4 pc rr di sd 0 0x484FDE
+
+-- the same as a call at a time
+abbrev ask : ℕ → ℕ → ℕ → ℕ → ℕ → Call
+ask time pc rr di sd = history.take time 0 (asking pc rr di sd)
+
+-- a message of the bytes 0, 0, 0, 0, 0, 0 and b
+abbrev tail : (b : ℕ) → b < 256 → Call
+tail b h = history.queue (0 ∷ 0 ∷ 0 ∷ 0 ∷ 0 ∷ 0 ∷ b ∷ []) (omega arith, (omega arith, (omega arith, (omega arith, (omega arith, (omega arith, (h, tt)))))))
+
+-- one message waits, and two
+abbrev one : List Call
+one = tail 0xAA (omega arith) ∷ []
+
+abbrev two : List Call
+two = tail 0xBB (omega arith) ∷ one
+
+-- ---- what is seen
+-- DR, UM and MB of the reply to UF 4 after a history
+abbrev shown : List Call → ℕ → ℕ → ℕ → ℕ → ℕ → List ℕ
+shown cs time pc rr di sd =
+    let r = taking (after aircraft cs) time 0 (asking pc rr di sd) in
+    let vs = readDown (take (r .length) (r .reply)) .values in
+    getD vs 2 0 ∷ getD vs 3 0 ∷ getD vs 5 0 ∷ []
+
+-- the bytes sent to an all-call after a history: 7, or none
+abbrev called : List Call → ℕ → ℕ → ℕ → ℕ → ℕ → ℕ
+called cs time pr ic cl draw = taking (after aircraft cs) time draw (frames.allCall pr ic cl) .length
+
+-- ---- fields of SD
+abbrev iis : ℕ → ℕ
+iis n = laid (bitsTo 17 20) n
+
+abbrev sis : ℕ → ℕ
+sis n = laid (bitsTo 17 22) n
+
+abbrev mbs : ℕ → ℕ
+mbs n = laid (bitsTo 21 22) n
+
+abbrev rss : ℕ → ℕ
+rss n = laid (bitsTo 27 28) n
+
+abbrev los : ℕ
+los = laid (bitsTo 26 26) 1
+
+abbrev lss : ℕ
+lss = laid (bitsTo 23 23) 1
+
+-- ---- lockout
+abbrev lockouts : List Row
+lockouts =
+    -- "locked 179 tenths after, free at 180": PC 1 at 100, all-calls of II 0 at 279 and 280; PR 8 ignores lockout
+    row (called (ask 100 1 0 0 0 ∷ []) 279 0 0 0 0 ∷ called (ask 100 1 0 0 0 ∷ []) 280 0 0 0 0 ∷ called (ask 100 1 0 0 0 ∷ []) 279 8 0 0 0 ∷ []) (0 ∷ 7 ∷ 7 ∷ [])
+    -- DI 1 and DI 7 with LOS lock II 5, and neither II 0 nor SI 5; DI 0 with LOS locks nothing
+    ∷ row (called (ask 0 0 0 1 (iis 5 + los) ∷ []) 0 0 5 0 0 ∷ called (ask 0 0 0 7 (iis 5 + los) ∷ []) 0 0 5 0 0 ∷ called (ask 0 0 0 0 (iis 5 + los) ∷ []) 0 0 5 0 0 ∷ []) (0 ∷ 0 ∷ 7 ∷ [])
+    ∷ row (called (ask 0 0 0 1 (iis 5 + los) ∷ []) 0 0 0 0 0 ∷ called (ask 0 0 0 1 (iis 5 + los) ∷ []) 0 0 5 1 0 ∷ called (ask 0 0 0 1 (iis 5) ∷ []) 0 0 5 0 0 ∷ []) (7 ∷ 7 ∷ 7 ∷ [])
+    -- DI 3 with LSS locks SI 5 (CL 1, IC 5) and SI 63, not II 5; SI 0 starts none; DI 1 with LSS starts none
+    ∷ row (called (ask 0 0 0 3 (sis 5 + lss) ∷ []) 0 0 5 1 0 ∷ called (ask 0 0 0 3 (sis 5 + lss) ∷ []) 0 0 5 0 0 ∷ called (ask 0 0 0 3 (sis 63 + lss) ∷ []) 0 0 15 4 0 ∷ []) (0 ∷ 7 ∷ 0 ∷ [])
+    ∷ row (called (ask 0 0 0 3 lss ∷ []) 0 0 0 0 0 ∷ called (ask 0 0 0 1 (sis 5 + lss) ∷ []) 0 0 5 1 0 ∷ []) (7 ∷ 7 ∷ [])
+    ∷ []
+
+-- ---- draws: "draw < 16/2^p"
+abbrev draws : List Row
+draws =
+    row (called [] 0 0 1 0 15 ∷ called [] 0 1 1 0 7 ∷ called [] 0 1 1 0 8 ∷ called [] 0 4 1 0 0 ∷ called [] 0 4 1 0 1 ∷ []) (7 ∷ 7 ∷ 0 ∷ 7 ∷ 0 ∷ [])
+    -- PR 12 is PR 4; 5, 7 and 13 get no reply; nor do SI 0 and CL 5
+    ∷ row (called [] 0 12 1 0 0 ∷ called [] 0 12 1 0 1 ∷ called [] 0 5 1 0 0 ∷ called [] 0 7 1 0 0 ∷ called [] 0 13 1 0 0 ∷ []) (7 ∷ 0 ∷ 0 ∷ 0 ∷ 0 ∷ [])
+    ∷ row (called [] 0 0 0 1 0 ∷ called [] 0 0 1 5 0 ∷ []) (0 ∷ 0 ∷ [])
+    ∷ []
+
+-- ---- Comm-B: DR, UM, MB
+abbrev messages : List Row
+messages =
+    -- nothing waits: no DR, MB zeros, and no reservation
+    row (shown [] 0 0 16 1 (iis 3 + mbs 1)) (0 ∷ 0 ∷ 0 ∷ [])
+    -- one waits: DR 1; RR 16 delivers it; II 3 reserves it
+    ∷ row (shown one 0 0 16 0 0) (1 ∷ 0 ∷ 0xAA ∷ [])
+    ∷ row (shown one 0 0 16 1 (iis 3 + mbs 1)) (1 ∷ 13 ∷ 0xAA ∷ [])
+    -- IIS 0 reserves nothing; RSS 2 hides UM
+    ∷ row (shown one 0 0 16 1 (mbs 1)) (1 ∷ 0 ∷ 0xAA ∷ [])
+    ∷ row (shown one 0 0 16 1 (iis 3 + mbs 1 + rss 2)) (1 ∷ 0 ∷ 0xAA ∷ [])
+    -- a register with RRS not zero reads zero, for DI 7 and for DI 3, as RR 17 does; RRS is not read for DI 1
+    ∷ row (shown one 0 0 16 7 (laid (bitsTo 21 24) 1)) (1 ∷ 0 ∷ 0 ∷ [])
+    ∷ row (shown one 0 0 16 3 (laid (bitsTo 24 27) 1)) (1 ∷ 0 ∷ 0 ∷ [])
+    ∷ row (shown one 0 0 17 0 0) (1 ∷ 0 ∷ 0 ∷ [])
+    ∷ row (shown one 0 0 16 1 (laid (bitsTo 24 27) 1)) (1 ∷ 0 ∷ 0xAA ∷ [])
+    ∷ []
+
+-- ---- reservation and closeout: II 3 has reserved the first of two at 100
+abbrev reserved : List Call
+reserved = ask 100 0 0 1 (iis 3 + mbs 1) ∷ two
+
+abbrev closeouts : List Row
+closeouts =
+    -- held 179 tenths after, nobody's at 180; the holder's repeat restarts it
+    row (shown reserved 279 0 16 0 0) (1 ∷ 13 ∷ 0xAA ∷ [])
+    ∷ row (shown reserved 280 0 16 0 0) (1 ∷ 0 ∷ 0xAA ∷ [])
+    ∷ row (shown (ask 200 0 0 1 (iis 3 + mbs 1) ∷ reserved) 379 0 16 0 0) (1 ∷ 13 ∷ 0xAA ∷ [])
+    -- another II can neither reserve it nor close it out, nor can PC 4
+    ∷ row (shown reserved 200 0 16 1 (iis 4 + mbs 1)) (1 ∷ 13 ∷ 0xAA ∷ [])
+    ∷ row (shown reserved 200 0 16 1 (iis 4 + mbs 2)) (1 ∷ 13 ∷ 0xAA ∷ [])
+    ∷ row (shown reserved 200 4 16 0 0) (1 ∷ 13 ∷ 0xAA ∷ [])
+    -- MBS 2 from the holder removes the first message and the reservation, also with PC 4: one message, not two
+    ∷ row (shown reserved 200 0 16 1 (iis 3 + mbs 2)) (1 ∷ 0 ∷ 0xBB ∷ [])
+    ∷ row (shown reserved 200 4 16 1 (iis 3 + mbs 2)) (1 ∷ 0 ∷ 0xBB ∷ [])
+    -- nobody holds: PC 4 removes the first message; MBS 2 does not, with IIS 0 neither; both in one frame remove one
+    ∷ row (shown two 0 4 16 0 0) (1 ∷ 0 ∷ 0xBB ∷ [])
+    ∷ row (shown two 0 0 16 1 (iis 3 + mbs 2)) (1 ∷ 0 ∷ 0xAA ∷ [])
+    ∷ row (shown two 0 0 16 1 (mbs 2)) (1 ∷ 0 ∷ 0xAA ∷ [])
+    ∷ row (shown two 0 4 16 1 (mbs 2)) (1 ∷ 0 ∷ 0xBB ∷ [])
+    -- PC 4 with MBS 1: the reservation comes first, so II 3 holds and PC 4 removes nothing
+    ∷ row (shown two 0 4 16 1 (iis 3 + mbs 1)) (1 ∷ 13 ∷ 0xAA ∷ [])
+    -- PC 4 with MBS 1 and nothing waiting: nobody holds what comes next
+    ∷ row (shown (tail 0xAA (omega arith) ∷ ask 0 4 0 1 (iis 3 + mbs 1) ∷ []) 0 0 16 0 0) (1 ∷ 0 ∷ 0xAA ∷ [])
+    ∷ []
+
+-- ---- all of them
+abbrev pub listing : List Row
+listing = lockouts ++ (draws ++ (messages ++ closeouts))
+
+-- the one claim
+pub listing-agrees : Agrees listing
+unfolding bits shiftIn divide remainderOf lowBits times overlayOf over frames.replyRanged frames.allCallReplyRanged frames.selective frames.allCall frames.aReply frames.anAllCallReply frames.replying frames.allCallReplying headOf midOf selectiveHead allCallHead replyHead allCallReplyHead front sealed readAs selectiveRead allCallRead surveillanceRead codeFor drawn started messagesWith messagesAfter timerAfter timersAfter lapse startedByLOS startedByLSS commandOfSD commanded lockout lockedTo reserve closeout sending respond drawsBelow answers answerAllCall newborn makeRanged making queuing steps interrogated laidOver heardSelective heardAllCall taking after
+listing-agrees = (refl, (refl, (refl, (refl, (refl, (refl, (refl, (refl, (refl, (refl, (refl, (refl, (refl, (refl, (refl, (refl, (refl, (refl, (refl, (refl, (refl, (refl, (refl, (refl, (refl, (refl, (refl, (refl, (refl, (refl, (refl, tt)))))))))))))))))))))))))))))))
