@@ -1,6 +1,6 @@
 -- The place of an address that is in the target list, and room in the waiting list.
 -- Assumes nothing.
-use mathlib.Core.Path.{_≡_, refl}
+use mathlib.Core.Path.{_≡_}
 use mathlib.Core.Bool.{Bool, true, false, _||_, true≢false}
 use native.Mathlib.Nat.{min-le-right}
 use native.Mathlib.Omega.{arith}
