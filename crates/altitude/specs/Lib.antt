@@ -1,4 +1,3 @@
--- The definitions: the altitude code, what is claimed of all codes, the lines of feet.
+-- The definitions: the altitude code, and what is claimed of all codes.
 pub mod Code
 pub mod Claims
-pub mod Lines

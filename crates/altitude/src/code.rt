@@ -2,7 +2,7 @@
 ghost use mathlib.Core.Path.{_≡_};
 ghost use Prim.Native.Nat.{_+_, _*_, _≤_, _<_};
 ghost use lib.IntN.{subℕ};
-ghost use Rattle.altitude.specs.Code.{bitAt, eleven, eight, grayValue, fiveHundreds, group, hundreds, altitude};
+ghost use Rattle.altitude.specs.Code.{bitAt, eleven, eight, grayValue, fiveHundreds, group, hundreds, altitude, numberOf};
 
 // The places of AC's bits, the last being 0. Q's place is that of D1, which the 100 ft code leaves unused.
 const C1: u32 = 12;
@@ -140,4 +140,17 @@ pub fn read(ac: u32) -> Altitude
     }
     let n = five_hundreds(ac);
     Altitude::Feet(signed(500 * n + 100 * hundreds_in(n, c), 1300))
+}
+
+// The number that an answer is given.
+pub fn number(a: Altitude) -> u32
+    ensures { λ r. ⌜ r ≡ numberOf a ⌝ }
+{
+    match a {
+        Altitude::Feet(_) => 0,
+        Altitude::None => 0,
+        Altitude::Metric => 0,
+        Altitude::Range => 2,
+        Altitude::Illegal => 18,
+    }
 }

@@ -19,8 +19,8 @@ use Rattle.text.proofs.Decimal.{decimal-length}
 use Rattle.text.proofs.HexMade.{hex-length, hex-of-length}
 use Rattle.text.proofs.HexRead.{bytes-fit}
 use Rattle.altitude.specs.Code.{altitude}
-use Rattle.altitude.specs.Lines as altitude-lines
-use Rattle.altitude.proofs.Run.{answer-short}
+use Rattle.feet_lines.specs.Lines as feet-lines
+use Rattle.feet_lines.proofs.Run.{answer-short}
 use Rattle.parity.specs.Messages.{bits, whole}
 use Rattle.parity.specs.Answers.{Outcome, done, refusal}
 use Rattle.parity.specs.Division.{remainderOf, remainderAnswer}
@@ -272,4 +272,4 @@ module _ (ws : List (List ℕ)) where
   pub feet-fits : length (feetText ws) ≤ room
   unfolding feetText
   feet-fits =
-      with-number-fits (numberIn 10 (word 1 ws)) (λ ac. altitude-lines.answerText (altitude ac)) (λ ac. omega (arith, answer-short ac))
+      with-number-fits (numberIn 10 (word 1 ws)) (λ ac. feet-lines.answerText (altitude ac)) (λ ac. omega (arith, answer-short ac))

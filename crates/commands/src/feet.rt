@@ -11,7 +11,7 @@ pub fn put_feet(line: &[u8], out: &mut [u8]) -> usize
     ensures { λ r. ⌜ Put (feetText (wordsOf (now (line .entry)))) 0 (now (out .entry)) (now (out .exit)) r ⌝ }
 {
     match number_at(line, 1) {
-        Number::Is(ac) => altitude::put_answer(out, 0, ac),
+        Number::Is(ac) => feet_lines::put_answer(out, 0, ac),
         Number::Not => put_unread(out),
     }
 }

@@ -9,7 +9,7 @@ fn main() {
     let mut line = [0u8; 32];
     let mut at: usize = 0;
     while at < s.len() {
-        let r = altitude::feet_line(s, at, &mut line);
+        let r = feet_lines::feet_line(s, at, &mut line);
         let size = r.size;
         io::write_all(STDOUT_FILENO, &line[..size]);
         at = r.next;

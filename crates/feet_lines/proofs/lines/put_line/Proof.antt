@@ -2,11 +2,11 @@
 use mathlib.Core.Path.{_≡_, sym, ap, _∙_}
 use native.Mathlib.Omega.{arith}
 use Rattle.text.proofs.Laid.{put-none}
-use Rattle.altitude.specs.Lines.{numberText, lineText}
-use Rattle.altitude.proofs.Texts.{no-word, two-words, one-word}
+use Rattle.feet_lines.specs.Lines.{numberText, lineText}
+use Rattle.feet_lines.proofs.Texts.{no-word, two-words, one-word}
 use borrow.Author.Needs.{needs}
-use Rattle.altitude.proofs.lines.put_line.Statement.{statement}
-use Rattle.altitude.proofs.lines.put_line.Tie as tie
+use Rattle.feet_lines.proofs.lines.put_line.Statement.{statement}
+use Rattle.feet_lines.proofs.lines.put_line.Tie as tie
 
 -- the text of a line of one word goes by what was read of it
 read-word : (c : tie.After-number) → lineText (c .before .before .before .before .before .before .before .before .before .args .line .now) ≡ numberText (c .number .result)

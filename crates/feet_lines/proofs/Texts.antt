@@ -11,10 +11,10 @@ use Rattle.text.specs.Number.{numberIn}
 use Rattle.text.proofs.Laid.{put-then}
 use Rattle.text.proofs.Words.{words-next, words-end}
 use Rattle.text.specs.declared.answer.Span.{Span}
 use Rattle.altitude.specs.declared.code.Altitude.{Altitude}
 use Rattle.altitude.specs.declared.code.Altitude.the-variants.{Feet}
 use Rattle.altitude.specs.Code.{altitude, numberOf}
-use Rattle.altitude.specs.Lines.{valueText, answerText, codeText, noCode, numberText, wordsText, lineText}
+use Rattle.feet_lines.specs.Lines.{valueText, answerText, codeText, noCode, numberText, wordsText, lineText}
 
 -- ---- a code's line
 

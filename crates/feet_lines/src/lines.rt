@@ -1,26 +1,13 @@
 // The lines of the program feet, as their very bytes.
-ghost use mathlib.Core.Path.{_≡_};
 ghost use Rattle.text.specs.Put.{Put};
 ghost use Rattle.text.specs.Run.{TookLine};
-ghost use Rattle.altitude.specs.Code.{altitude, numberOf};
-ghost use Rattle.altitude.specs.Lines.{valueText, answerText, codeText, lineText};
-use crate::code::Altitude;
-use crate::code::read;
+ghost use Rattle.altitude.specs.Code.{altitude};
+ghost use Rattle.feet_lines.specs.Lines.{valueText, answerText, codeText, lineText};
+use altitude::Altitude;
+use altitude::number;
+use altitude::read;
 use text::Lined;
 use text::Number;
-
-// The number that an answer is given.
-pub fn number(a: Altitude) -> u32
-    ensures { λ r. ⌜ r ≡ numberOf a ⌝ }
-{
-    match a {
-        Altitude::Feet(_) => 0,
-        Altitude::None => 0,
-        Altitude::Metric => 0,
-        Altitude::Range => 2,
-        Altitude::Illegal => 18,
-    }
-}
 
 // What stands behind the answer's number, and the line's end.
 fn put_value(out: &mut [u8], at: usize, a: Altitude) -> usize

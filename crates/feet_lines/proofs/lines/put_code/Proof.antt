@@ -1,8 +1,8 @@
 -- `put_code` lays the code and its answer.
-use Rattle.altitude.proofs.Texts.{code-put}
+use Rattle.feet_lines.proofs.Texts.{code-put}
 use borrow.Author.Needs.{needs}
-use Rattle.altitude.proofs.lines.put_code.Statement.{statement}
-use Rattle.altitude.proofs.lines.put_code.Tie as tie
+use Rattle.feet_lines.proofs.lines.put_code.Statement.{statement}
+use Rattle.feet_lines.proofs.lines.put_code.Tie as tie
 
 put-decimal-requires : tie.Need-put-decimal-requires
 put-decimal-requires c κs = search needs

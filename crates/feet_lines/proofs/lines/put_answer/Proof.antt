@@ -1,8 +1,8 @@
 -- `put_answer` lays the answer's number and its value.
-use Rattle.altitude.proofs.Texts.{answer-put}
+use Rattle.feet_lines.proofs.Texts.{answer-put}
 use borrow.Author.Needs.{needs}
-use Rattle.altitude.proofs.lines.put_answer.Statement.{statement}
-use Rattle.altitude.proofs.lines.put_answer.Tie as tie
+use Rattle.feet_lines.proofs.lines.put_answer.Statement.{statement}
+use Rattle.feet_lines.proofs.lines.put_answer.Tie as tie
 
 read-requires : tie.Need-read-requires
 read-requires c κs = search needs

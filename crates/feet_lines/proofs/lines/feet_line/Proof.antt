@@ -1,9 +1,9 @@
 -- `feet_line` takes the line at a place and goes on behind its newline.
 use Rattle.text.proofs.Run.{took}
-use Rattle.altitude.specs.Lines.{lineText}
+use Rattle.feet_lines.specs.Lines.{lineText}
 use borrow.Author.Needs.{needs}
-use Rattle.altitude.proofs.lines.feet_line.Statement.{statement}
-use Rattle.altitude.proofs.lines.feet_line.Tie as tie
+use Rattle.feet_lines.proofs.lines.feet_line.Statement.{statement}
+use Rattle.feet_lines.proofs.lines.feet_line.Tie as tie
 
 line-at-requires : tie.Need-line-at-requires
 line-at-requires c κs = search needs

@@ -2,11 +2,11 @@
 use mir.Syntax.{w32}
 use mir.Val.{SFits}
 use mir.ValLaws.{toZ-ofZ}
-use Rattle.altitude.specs.Lines.{valueText}
-use Rattle.altitude.proofs.Texts.{feet-put}
+use Rattle.feet_lines.specs.Lines.{valueText}
+use Rattle.feet_lines.proofs.Texts.{feet-put}
 use borrow.Author.Needs.{needs, sfits-of}
-use Rattle.altitude.proofs.lines.put_value.Statement.{statement}
-use Rattle.altitude.proofs.lines.put_value.Tie as tie
+use Rattle.feet_lines.proofs.lines.put_value.Statement.{statement}
+use Rattle.feet_lines.proofs.lines.put_value.Tie as tie
 
 enum-known-a : tie.Need-enum-known-a
 enum-known-a c = search needs

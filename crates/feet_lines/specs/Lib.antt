@@ -1,0 +1,2 @@
+-- The definitions: the lines of feet.
+pub mod Lines
