@@ -1,92 +1,140 @@
--- Theorems of frames: what a frame can come to, that what is not for this aircraft changes time alone, and what a reply shows.
+-- Theorems of calls: what a call can come to, that a refusal changes nothing, that what is not for this aircraft changes time alone, and what a reply shows.
 -- Assumes nothing.
-use Prim.Native.Nat.{ℕ, _≤_}
+use Prim.Native.Nat.{ℕ, _≤_, _<_}
 use mathlib.Core.Path.{_≡_, refl, ap, _∙_}
 use mathlib.Core.Bool.{Bool, true, false}
 use mathlib.Core.List.{List, [], _∷_}
 use lib.Dec.{eqb, leb}
 use lib.ListN.{length, getD, replicate}
-use borrow.Author.Tests.{le-leb}
+use borrow.Author.Tests.{eqb-true, eqb-false, leb-true, leb-false, le-leb}
 use Rattle.lists.specs.Lists.{pick}
-use Rattle.parity.specs.Messages.{whole}
+use Rattle.parity.specs.Messages.{whole, AreBytes}
 use Rattle.frames.specs.Building.{replying}
+use Rattle.frames.specs.Bytes.{numberOf}
 use Rattle.frames.specs.Formats.{lengthOf}
 use Rattle.frames.specs.Shared.{drawn}
 use Rattle.frames.specs.Reading.{readUp}
 use Rattle.frames.specs.declared.answers.Draws.the-variants.{Format}
 use Rattle.transponder.specs.declared.state.Transponder.{Transponder}
+use Rattle.transponder.specs.declared.state.Queued.{Queued}
 use Rattle.transponder.specs.declared.state.Went.{Went}
 use Rattle.transponder.specs.declared.state.Took.{Took}
+use Rattle.transponder.specs.State.{waiting, messagesWith, withMessages}
 use Rattle.transponder.specs.Lapse.{lapse}
-use Rattle.transponder.specs.Replies.{sending, drOf, umOf, mbOf, valueOf, respond, answerAllCall}
-use Rattle.transponder.specs.Calls.{steps, interrogated, unmoved, laidOver, heardSelective, heardAllCall, heard, done, refusing, taking}
+use Rattle.transponder.specs.Replies.{sending, drOf, umOf, mbOf, valueOf, respond}
+use Rattle.transponder.specs.Calls as calls
+use Rattle.transponder.specs.Calls.{queuing, steps, interrogated, unmoved, laidOver, heardSelective, heardAllCall, heard, refusing, taking}
+use Rattle.transponder.specs.History.{Call, queue, take, Answer, refused, done, answer}
 
 -- what holds of both holds of either
 pub of-pick : {A : Type 0} (P : A → Type 0) (b : Bool) (x y : A) → P x → P y → P (pick b x y)
 of-pick P true x y p q = p
 of-pick P false x y p q = q
 
--- ---- a transponder after a frame: as it was (a refusal), only lapsed, or lapsed and then through the steps
-pub data Came (t : Transponder) (time : ℕ) (u : Transponder) : Type 0 where
-  same : u ≡ t → Came t time u
-  lapsed : u ≡ lapse time t → Came t time u
-  stepped : (pc di sd : ℕ) → u ≡ steps pc di sd (lapse time t) → Came t time u
+-- ---- what a call can come to: it is refused and nothing changes; a message is queued; a frame only moves time, or time lapses and then come the steps
+pub data Came (t : Transponder) : Call → Answer → Type 0 where
+  refusal : {c : Call} {r : Answer} (n : ℕ) → (n ≡ 0 → ⊥) → r ≡ refused n t → Came t c r
+  did-queue : {r : Answer} (m : List ℕ) (b : AreBytes m) → length m ≡ 7 → length (waiting (t .messages)) < 8 → r ≡ done (withMessages (messagesWith (numberOf m) (t .messages)) t) → Came t (queue m b) r
+  did-lapse : {r : Answer} (time draw : ℕ) (f : List ℕ) → t .time ≤ time → r ≡ done (lapse time t) → Came t (take time draw f) r
+  did-steps : {r : Answer} (time draw : ℕ) (f : List ℕ) (pc di sd : ℕ) → t .time ≤ time → r ≡ done (steps pc di sd (lapse time t)) → Came t (take time draw f) r
 
--- after the lapse: as it is, or through the steps
+-- what a frame's answer and a queuing's say of the transponder
+abbrev taken : Took → Answer
+taken r = record { number = r .number; transponder = r .transponder }
+
+abbrev queued : Queued → Answer
+queued r = record { number = r .number; transponder = r .transponder }
+
+-- a number of the table is not 0
+numbered : (n : ℕ) → eqb n 0 ≡ false → n ≡ 0 → ⊥
+numbered n e q = eqb-false n 0 e q
+
+-- a check that is passed leads to the next one, and else its number is given
+module _ (t : Transponder) (c : Call) where
+  test : (b : Bool) (n : ℕ) (y : Took) → (n ≡ 0 → ⊥) → (b ≡ true → Came t c (taken y)) → Came t c (taken (pick b y (refusing n t)))
+  test true n y z g = g refl
+  test false n y z g = refusal n z refl
+
+-- ---- after the lapse: as it is, or through the steps
 pub data Heard (t : Transponder) (u : Transponder) : Type 0 where
   still : u ≡ t → Heard t u
   moved : (pc di sd : ℕ) → u ≡ steps pc di sd t → Heard t u
 
 selective : (uf pc rr di sd r : ℕ) (t : Transponder) → Heard t (heardSelective uf pc rr di sd r t .transponder)
 unfolding heardSelective interrogated
-selective uf pc rr di sd r t =
-    of-pick (λ (w : Went). Heard t (w .transponder)) (laidOver (t .address) r) (interrogated uf pc rr di sd t) (unmoved t) (moved pc di sd refl) (still refl)
+selective uf pc rr di sd r t = of-pick (λ (w : Went). Heard t (w .transponder)) (laidOver (t .address) r) _ (unmoved t) (moved pc di sd refl) (still refl)
 
 all-call : (pr ic cl r draw : ℕ) (t : Transponder) → Heard t (heardAllCall pr ic cl r draw t .transponder)
 unfolding heardAllCall
-all-call pr ic cl r draw t =
-    of-pick (λ (w : Went). Heard t (w .transponder)) (laidOver 0xFFFFFF r) (record { transponder = t; sent = answerAllCall pr ic cl draw t }) (unmoved t) (still refl) (still refl)
+all-call pr ic cl r draw t = of-pick (λ (w : Went). Heard t (w .transponder)) (laidOver 0xFFFFFF r) _ (unmoved t) (still refl) (still refl)
 
 pub what-is-heard : (draw : ℕ) (t : Transponder) (vs : List ℕ) → Heard t (heard draw t vs .transponder)
 what-is-heard draw t vs =
-    let s = heardSelective (getD vs 0 0) (getD vs 1 0) (getD vs 2 0) (getD vs 3 0) (getD vs 4 0) (getD vs 6 0) t in
-    let a = heardAllCall (getD vs 1 0) (getD vs 2 0) (getD vs 3 0) (getD vs 4 0) draw t in
     let P : Went → Type 0 = λ w. Heard t (w .transponder) in
-    of-pick P (eqb (length vs) 7) s (pick (eqb (length vs) 5) a (unmoved t)) (selective (getD vs 0 0) (getD vs 1 0) (getD vs 2 0) (getD vs 3 0) (getD vs 4 0) (getD vs 6 0) t)
-    (of-pick P (eqb (length vs) 5) a (unmoved t) (all-call (getD vs 1 0) (getD vs 2 0) (getD vs 3 0) (getD vs 4 0) draw t) (still refl))
+    of-pick P (eqb (length vs) 7) _ _ (selective (getD vs 0 0) (getD vs 1 0) (getD vs 2 0) (getD vs 3 0) (getD vs 4 0) (getD vs 6 0) t)
+    (of-pick P (eqb (length vs) 5) _ (unmoved t) (all-call (getD vs 1 0) (getD vs 2 0) (getD vs 3 0) (getD vs 4 0) draw t) (still refl))
 
-from : (t : Transponder) (time : ℕ) (u : Transponder) → Heard (lapse time t) u → Came t time u
-from t time u (still e) = lapsed e
-from t time u (moved pc di sd e) = stepped pc di sd e
+from : (t : Transponder) (time draw : ℕ) (f : List ℕ) (u : Transponder) → t .time ≤ time → Heard (lapse time t) u → Came t (take time draw f) (done u)
+from t time draw f u p (still e) = did-lapse time draw f p (ap done e)
+from t time draw f u p (moved pc di sd e) = did-steps time draw f pc di sd p (ap done e)
 
-pub what-a-frame-does : (t : Transponder) (time draw : ℕ) (f : List ℕ) → Came t time (taking t time draw f .transponder)
+-- ---- every call
+pub came : (t : Transponder) (c : Call) → Came t c (answer t c)
+unfolding taking queuing
+came t (take time draw f) =
+    test t (take time draw f) (whole (length f)) 1 _ (numbered 1 refl)
+    (λ _. test t (take time draw f) (leb draw 15) 2 _ (numbered 2 refl)
+    (λ _. test t (take time draw f) (leb (t .time) time) 15 _ (numbered 15 refl)
+    (λ p. from t time draw f _ (leb-true (t .time) time p) (what-is-heard draw (lapse time t) (readUp f .values)))))
+came t (queue m b) = go (eqb (length m) 7) refl (leb 8 (length (waiting (t .messages)))) refl
+  where
+    go : (x : Bool) → eqb (length m) 7 ≡ x → (y : Bool) → leb 8 (length (waiting (t .messages))) ≡ y
+        → Came t (queue m b) (queued (pick x (pick y (record { number = 6; transponder = t }) (record { number = 0; transponder = withMessages (messagesWith (numberOf m) (t .messages)) t })) (record { number = 1; transponder = t })))
+    go false e y h = refusal 1 (numbered 1 refl) refl
+    go true e true h = refusal 6 (numbered 6 refl) refl
+    go true e false h = did-queue m b (eqb-true (length m) 7 e) (leb-false 8 (length (waiting (t .messages))) h) refl
+
+-- ---- "a refusal returns its number alone and changes nothing", time included
+pub refusal-changes-nothing : (t : Transponder) (c : Call) → (answer t c .number ≡ 0 → ⊥) → answer t c .transponder ≡ t
+refusal-changes-nothing t c n = go c (answer t c) n (came t c)
+  where
+    no-done : {r : Answer} (u : Transponder) → r ≡ done u → (r .number ≡ 0 → ⊥) → ⊥
+    no-done u e n = n (ap (λ (r : Answer). r .number) e)
+
+    go : (c : Call) (r : Answer) → (r .number ≡ 0 → ⊥) → Came t c r → r .transponder ≡ t
+    go c r n (refusal k z e) = ap (λ (x : Answer). x .transponder) e
+    go c r n (did-queue m b l w e) = absurd (no-done _ e n)
+    go c r n (did-lapse time draw f p e) = absurd (no-done _ e n)
+    go c r n (did-steps time draw f pc di sd p e) = absurd (no-done _ e n)
+
+-- and nothing is sent
+pub refusal-sends-nothing : (t : Transponder) (time draw : ℕ) (f : List ℕ) → (taking t time draw f .number ≡ 0 → ⊥) → taking t time draw f .length ≡ 0
 unfolding taking
-what-a-frame-does t time draw f =
-    let P : Took → Type 0 = λ r. Came t time (r .transponder) in
-    let w = done (heard draw (lapse time t) (readUp f .values)) in
-    of-pick P (whole (length f)) (pick (leb draw 15) (pick (leb (t .time) time) w (refusing 15 t)) (refusing 2 t)) (refusing 1 t)
-    (of-pick P (leb draw 15) (pick (leb (t .time) time) w (refusing 15 t)) (refusing 2 t)
-    (of-pick P (leb (t .time) time) w (refusing 15 t) (from t time (w .transponder) (what-is-heard draw (lapse time t) (readUp f .values))) (same refl))
-    (same refl))
-    (same refl)
+refusal-sends-nothing t time draw f = go (whole (length f)) (leb draw 15) (leb (t .time) time)
+  where
+    go : (a b d : Bool) → let r = pick a (pick b (pick d (calls.done (heard draw (lapse time t) (readUp f .values))) (refusing 15 t)) (refusing 2 t)) (refusing 1 t) in (r .number ≡ 0 → ⊥) → r .length ≡ 0
+    go true true true n = absurd (n refl)
+    go true true false n = refl
+    go true false d n = refl
+    go false b d n = refl
 
 -- ---- what is not for this aircraft changes time alone, and gets no reply
 module _ (t : Transponder) (time draw : ℕ) (f : List ℕ) (h : whole (length f) ≡ true) (d : draw ≤ 15) (p : t .time ≤ time) where
-  taken : taking t time draw f ≡ done (heard draw (lapse time t) (readUp f .values))
+  accepted : taking t time draw f ≡ calls.done (heard draw (lapse time t) (readUp f .values))
   unfolding taking
-  taken = rw (h, le-leb draw 15 d, le-leb (t .time) time p)
+  accepted = rw (h, le-leb draw 15 d, le-leb (t .time) time p)
 
-  pub another-address : (uf pc rr di sd ma r : ℕ) → readUp f .values ≡ uf ∷ pc ∷ rr ∷ di ∷ sd ∷ ma ∷ r ∷ [] → laidOver (lapse time t .address) r ≡ false → taking t time draw f ≡ done (unmoved (lapse time t))
+  pub another-address : (uf pc rr di sd ma r : ℕ) → readUp f .values ≡ uf ∷ pc ∷ rr ∷ di ∷ sd ∷ ma ∷ r ∷ [] → laidOver (lapse time t .address) r ≡ false → taking t time draw f ≡ calls.done (unmoved (lapse time t))
   unfolding heardSelective
-  another-address uf pc rr di sd ma r e l = taken ∙ ap (λ (v : List ℕ). done (heard draw (lapse time t) v)) e ∙ (rw l)
+  another-address uf pc rr di sd ma r e l = accepted ∙ ap (λ (v : List ℕ). calls.done (heard draw (lapse time t) v)) e ∙ (rw l)
 
-  pub another-all-call : (pr ic cl r : ℕ) → readUp f .values ≡ 11 ∷ pr ∷ ic ∷ cl ∷ r ∷ [] → laidOver 0xFFFFFF r ≡ false → taking t time draw f ≡ done (unmoved (lapse time t))
+  pub another-all-call : (pr ic cl r : ℕ) → readUp f .values ≡ 11 ∷ pr ∷ ic ∷ cl ∷ r ∷ [] → laidOver 0xFFFFFF r ≡ false → taking t time draw f ≡ calls.done (unmoved (lapse time t))
   unfolding heardAllCall
-  another-all-call pr ic cl r e l = taken ∙ ap (λ (v : List ℕ). done (heard draw (lapse time t) v)) e ∙ (rw l)
+  another-all-call pr ic cl r e l = accepted ∙ ap (λ (v : List ℕ). calls.done (heard draw (lapse time t) v)) e ∙ (rw l)
 
   -- another format, or of the wrong length for its format: nothing is read
-  pub another-format : readUp f .values ≡ [] → taking t time draw f ≡ done (unmoved (lapse time t))
-  another-format e = taken ∙ ap (λ (v : List ℕ). done (heard draw (lapse time t) v)) e
+  pub another-format : readUp f .values ≡ [] → taking t time draw f ≡ calls.done (unmoved (lapse time t))
+  another-format e = accepted ∙ ap (λ (v : List ℕ). calls.done (heard draw (lapse time t) v)) e
 
 -- ---- DR, UM and MB of a reply are those of the state after the closeout
 pub reply-after-closeout : (uf pc rr di sd df : ℕ) (t : Transponder) → drawn uf rr ≡ Format df

@@ -6,7 +6,8 @@ use mathlib.Core.Path.{_≡_, refl, sym, ap, _∙_, subst}
 use mathlib.Core.Bool.{Bool, true, false, _&&_, not}
 use mathlib.Core.List.{List, [], _∷_, _++_}
 use mathlib.Core.Logic.{_⊎_, inl, inr}
-use lib.ListN.{length, take, drop, length-append}
+use lib.ListN as list
+use lib.ListN.{length, drop, length-append}
 use borrow.Author.Tests.{ne-eqb}
 use Rattle.lists.specs.Lists.{pick}
 use Rattle.lists.proofs.Over.{take-over}
@@ -20,22 +21,24 @@ use Rattle.transponder.specs.Lapse.{isOver, holderAfter, lapse}
 use Rattle.transponder.specs.Lockout.{iis, commanded, lockout}
 use Rattle.transponder.specs.CommB.{asksToHold, nobodyElse, reserve, closes, closeout}
 use Rattle.transponder.specs.Calls.{newborn, steps, taking}
-use Rattle.transponder.proofs.Came.{of-pick, Came, same, lapsed, stepped, what-a-frame-does}
+use Rattle.transponder.specs.History.{Answer, take}
+use Rattle.transponder.specs.Kept.{heldWaits, HeldWaits}
+use Rattle.transponder.proofs.Came.{of-pick, Came, refusal, did-queue, did-lapse, did-steps, came}
 
 -- ---- one message less
-front : (k : ℕ) (xs ys : List ℕ) → take (length (take k xs)) (xs ++ ys) ≡ take k xs
+front : (k : ℕ) (xs ys : List ℕ) → list.take (length (list.take k xs)) (xs ++ ys) ≡ list.take k xs
 front zero xs ys = refl
 front (suc k) [] ys = refl
 front (suc k) (x ∷ xs) ys = ap {B = List ℕ} (λ v. x ∷ v) (front k xs ys)
 
-less : (l : List ℕ) (n : ℕ) → waiting (messagesAfter (record { list = l; n = n })) ≡ drop 1 (take n l)
+less : (l : List ℕ) (n : ℕ) → waiting (messagesAfter (record { list = l; n = n })) ≡ drop 1 (list.take n l)
 unfolding messagesAfter
 less [] zero = refl
 less [] (suc n) = refl
 less (x ∷ l) zero = refl
 less (x ∷ l) (suc n) =
-    let w : waits (record { list = x ∷ l; n = suc n }) ≡ true = ap not (ne-eqb (suc (length (take n l))) 0 (λ q. omega arith)) in
-    let e : suc (length (take n l)) - 1 ≡ length (take n l) = omega arith in
+    let w : waits (record { list = x ∷ l; n = suc n }) ≡ true = ap not (ne-eqb (suc (length (list.take n l))) 0 (λ q. omega arith)) in
+    let e : suc (length (list.take n l)) - 1 ≡ length (list.take n l) = omega arith in
     rw (w, e) (front n l (0 ∷ []))
 
 pub waiting-after : (m : Messages) → waiting (messagesAfter m) ≡ drop 1 (waiting m)
@@ -76,24 +79,17 @@ steps-one pc di sd t =
     subst (λ (m : Messages). AtMostOne m (closeout pc di sd (reserve di sd (lockout pc di sd t)) .messages)) (reserve-same di sd (lockout pc di sd t) ∙ lockout-same pc di sd t)
     (closeout-one pc di sd (reserve di sd (lockout pc di sd t)))
 
-removes : (t : Transponder) (time : ℕ) (u : Transponder) → Came t time u → AtMostOne (t .messages) (u .messages)
-removes t time u (same e) = inl (ap (λ (x : Transponder). waiting (x .messages)) e)
-removes t time u (lapsed e) = inl (ap (λ (x : Transponder). waiting (x .messages)) e ∙ ap waiting (lapse-same time t))
-removes t time u (stepped pc di sd e) =
-    subst (λ (x : Transponder). AtMostOne (t .messages) (x .messages)) (sym e)
+removes : (t : Transponder) (time draw : ℕ) (f : List ℕ) (r : Answer) → Came t (take time draw f) r → AtMostOne (t .messages) (r .transponder .messages)
+removes t time draw f r (refusal n z e) = inl (ap (λ (x : Answer). waiting (x .transponder .messages)) e)
+removes t time draw f r (did-lapse _ _ _ p e) = inl (ap (λ (x : Answer). waiting (x .transponder .messages)) e ∙ ap waiting (lapse-same time t))
+removes t time draw f r (did-steps _ _ _ pc di sd p e) =
+    subst (λ (x : Answer). AtMostOne (t .messages) (x .transponder .messages)) (sym e)
     (subst (λ (m : Messages). AtMostOne m (steps pc di sd (lapse time t) .messages)) (lapse-same time t) (steps-one pc di sd (lapse time t)))
 
 pub a-frame-removes-at-most-one : (t : Transponder) (time draw : ℕ) (f : List ℕ) → AtMostOne (t .messages) (taking t time draw f .transponder .messages)
-a-frame-removes-at-most-one t time draw f = removes t time (taking t time draw f .transponder) (what-a-frame-does t time draw f)
+a-frame-removes-at-most-one t time draw f = removes t time draw f _ (came t (take time draw f))
 
 -- ---- held implies that a message waits: every making gives it, and every call keeps it
-abbrev pub heldWaits : Holder → Messages → Bool
-heldWaits Nobody m = true
-heldWaits (Held ii s) m = waits m
-
-abbrev pub HeldWaits : Transponder → Type 0
-HeldWaits t = heldWaits (t .holder) (t .messages) ≡ true
-
 pub made-held : (address ac id fs ca : ℕ) → HeldWaits (newborn address ac id fs ca)
 unfolding newborn
 made-held address ac id fs ca = refl
@@ -134,14 +130,6 @@ closeout-held : (pc di sd : ℕ) (t : Transponder) → HeldWaits t → HeldWaits
 unfolding closeout
 closeout-held pc di sd t w = of-pick HeldWaits (closes pc di sd (t .holder)) (withMessages (messagesAfter (t .messages)) (withHolder Nobody t)) t refl w
 
-steps-held : (pc di sd : ℕ) (t : Transponder) → HeldWaits t → HeldWaits (steps pc di sd t)
+pub steps-held : (pc di sd : ℕ) (t : Transponder) → HeldWaits t → HeldWaits (steps pc di sd t)
 unfolding steps
 steps-held pc di sd t w = closeout-held pc di sd (reserve di sd (lockout pc di sd t)) (reserve-held di sd (lockout pc di sd t) (lockout-held pc di sd t w))
-
-came-held : (t : Transponder) (time : ℕ) (u : Transponder) → Came t time u → HeldWaits t → HeldWaits u
-came-held t time u (same e) w = subst HeldWaits (sym e) w
-came-held t time u (lapsed e) w = subst HeldWaits (sym e) (lapse-held time t w)
-came-held t time u (stepped pc di sd e) w = subst HeldWaits (sym e) (steps-held pc di sd (lapse time t) (lapse-held time t w))
-
-pub taken-held : (t : Transponder) (time draw : ℕ) (f : List ℕ) → HeldWaits t → HeldWaits (taking t time draw f .transponder)
-taken-held t time draw f w = came-held t time (taking t time draw f .transponder) (what-a-frame-does t time draw f) w

@@ -29,6 +29,14 @@ pub record Answer : Type 0 where
   pub number : ℕ
   pub transponder : Transponder
 
+-- "a refusal returns its number alone and changes nothing"
+abbrev pub refused : ℕ → Transponder → Answer
+refused n t = record { number = n; transponder = t }
+
+-- "0 means done"
+abbrev pub done : Transponder → Answer
+done t = record { number = 0; transponder = t }
+
 abbrev pub answer : Transponder → Call → Answer
 answer t (queue m b) = record { number = queuing t m .number; transponder = queuing t m .transponder }
 answer t (take time draw f) = record { number = taking t time draw f .number; transponder = taking t time draw f .transponder }

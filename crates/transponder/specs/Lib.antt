@@ -1,4 +1,4 @@
--- The definitions: the state, the steps of document 01 in their order, histories of calls, and examples at the edges.
+-- The definitions: the state, the steps of document 01 in their order, histories of calls and what each keeps, and examples at the edges.
 pub mod State
 pub mod Lapse
 pub mod Lockout
@@ -6,4 +6,5 @@ pub mod CommB
 pub mod Replies
 pub mod Calls
 pub mod History
+pub mod Kept
 pub mod Examples
