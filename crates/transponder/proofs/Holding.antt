@@ -3,15 +3,13 @@
 use Prim.Native.Nat.{ℕ, zero, suc, _+_, _-_}
 use native.Mathlib.Omega.{arith}
 use mathlib.Core.Path.{_≡_, refl, sym, ap, _∙_, subst}
-use mathlib.Core.Bool.{Bool, true, false, _&&_, not}
+use mathlib.Core.Bool.{true, _&&_, not}
 use mathlib.Core.List.{List, [], _∷_, _++_}
 use mathlib.Core.Logic.{_⊎_, inl, inr}
 use lib.ListN as list
 use lib.ListN.{length, drop, length-append}
 use borrow.Author.Tests.{ne-eqb}
-use Rattle.lists.specs.Lists.{pick}
 use Rattle.lists.proofs.Over.{take-over}
-use Rattle.lists.proofs.Tests.{and-true}
 use Rattle.transponder.specs.declared.state.Holder.{Holder}
 use Rattle.transponder.specs.declared.state.Holder.the-variants.{Nobody, Held}
 use Rattle.transponder.specs.declared.state.Messages.{Messages}
@@ -20,10 +18,10 @@ use Rattle.transponder.specs.State.{waiting, waits, messagesWith, messag
 use Rattle.transponder.specs.Lapse.{isOver, holderAfter, lapse}
 use Rattle.transponder.specs.Lockout.{iis, commanded, lockout}
 use Rattle.transponder.specs.CommB.{asksToHold, nobodyElse, reserve, closes, closeout}
-use Rattle.transponder.specs.Calls.{newborn, steps, taking}
+use Rattle.transponder.specs.Calls.{steps, taking}
 use Rattle.transponder.specs.History.{Answer, take}
 use Rattle.transponder.specs.Kept.{heldWaits, HeldWaits}
-use Rattle.transponder.proofs.Came.{of-pick, Came, refusal, did-queue, did-lapse, did-steps, came}
+use Rattle.transponder.proofs.Came.{of-pick, Came, refusal, did-lapse, did-steps, came}
 
 -- ---- one message less
 front : (k : ℕ) (xs ys : List ℕ) → list.take (length (list.take k xs)) (xs ++ ys) ≡ list.take k xs
@@ -89,11 +87,7 @@ removes t time draw f r (did-steps _ _ _ pc di sd p e) =
 pub a-frame-removes-at-most-one : (t : Transponder) (time draw : ℕ) (f : List ℕ) → AtMostOne (t .messages) (taking t time draw f .transponder .messages)
 a-frame-removes-at-most-one t time draw f = removes t time draw f _ (came t (take time draw f))
 
--- ---- held implies that a message waits: every making gives it, and every call keeps it
-pub made-held : (address ac id fs ca : ℕ) → HeldWaits (newborn address ac id fs ca)
-unfolding newborn
-made-held address ac id fs ca = refl
-
+-- ---- held implies that a message waits: after a message more, and after a lapse
 one-waits : (v : ℕ) (m : Messages) → waits (messagesWith v m) ≡ true
 one-waits v m =
     let e : length (waiting (messagesWith v m)) ≡ length (waiting m) + 1 = ap length (waiting-with v m) ∙ length-append (waiting m) (v ∷ []) in
@@ -113,23 +107,3 @@ holder-held now (Held ii s) m w = of-pick (λ (h : Holder). heldWaits h m ≡ tr
 pub lapse-held : (now : ℕ) (t : Transponder) → HeldWaits t → HeldWaits (lapse now t)
 unfolding lapse
 lapse-held now t w = holder-held now (t .holder) (t .messages) w
-
-lockout-held : (pc di sd : ℕ) (t : Transponder) → HeldWaits t → HeldWaits (lockout pc di sd t)
-unfolding lockout commanded
-lockout-held pc di sd t w = w
-
-reserve-held : (di sd : ℕ) (t : Transponder) → HeldWaits t → HeldWaits (reserve di sd t)
-unfolding reserve
-reserve-held di sd t w = go (asksToHold di sd && waits (t .messages) && nobodyElse (iis sd) (t .holder)) refl
-  where
-    go : (b : Bool) → asksToHold di sd && waits (t .messages) && nobodyElse (iis sd) (t .holder) ≡ b → HeldWaits (pick b (withHolder (Held (iis sd) (t .time)) t) t)
-    go true e = and-true (asksToHold di sd) (waits (t .messages)) (and-true (asksToHold di sd && waits (t .messages)) (nobodyElse (iis sd) (t .holder)) e .0) .1
-    go false e = w
-
-closeout-held : (pc di sd : ℕ) (t : Transponder) → HeldWaits t → HeldWaits (closeout pc di sd t)
-unfolding closeout
-closeout-held pc di sd t w = of-pick HeldWaits (closes pc di sd (t .holder)) (withMessages (messagesAfter (t .messages)) (withHolder Nobody t)) t refl w
-
-pub steps-held : (pc di sd : ℕ) (t : Transponder) → HeldWaits t → HeldWaits (steps pc di sd t)
-unfolding steps
-steps-held pc di sd t w = closeout-held pc di sd (reserve di sd (lockout pc di sd t)) (reserve-held di sd (lockout pc di sd t) (lockout-held pc di sd t w))

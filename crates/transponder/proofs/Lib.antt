@@ -3,3 +3,4 @@ pub mod Timing
 pub mod Draws
 pub mod Came
 pub mod Holding
+pub mod Keeping

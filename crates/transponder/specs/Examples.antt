@@ -4,10 +4,10 @@ use Prim.Native.Nat.{ℕ, _+_, _<_}
 use native.Mathlib.Omega.{arith}
 use mathlib.Core.Path.{refl}
 use mathlib.Core.List.{List, [], _∷_, _++_}
-use lib.ListN.{getD, take, replicate}
+use lib.ListN.{getD, take}
 use Rattle.lists.specs.Lists.{over}
 use Rattle.lists.specs.Listing.{Row, row, Agrees}
-use Rattle.parity.specs.Messages.{bits, AreBytes}
+use Rattle.parity.specs.Messages.{bits}
 use Rattle.parity.specs.Division.{shiftIn, divide, remainderOf}
 use Rattle.parity.specs.Overlays.{lowBits, times, overlayOf}
 use Rattle.frames.specs.Building as frames
