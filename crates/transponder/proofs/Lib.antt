@@ -4,3 +4,4 @@ pub mod Draws
 pub mod Came
 pub mod Holding
 pub mod Keeping
+pub mod Numbers

@@ -6,5 +6,6 @@ pub mod CommB
 pub mod Replies
 pub mod Calls
 pub mod History
+pub mod Numbers
 pub mod Kept
 pub mod Examples

@@ -1,0 +1,39 @@
+-- Numbers given back: document 01's table, as the checks of each call of the model in their order.
+-- Assumes nothing: these are definitions.
+use Prim.Native.Nat.{ℕ}
+use mathlib.Core.List.{List, [], _∷_}
+use mathlib.Core.Bool.{Bool, not, _&&_}
+use lib.ListN.{length}
+use lib.Dec.{eqb, leb, ltb}
+use Rattle.lists.specs.Lists.{pick}
+use Rattle.parity.specs.Messages.{whole}
+use Rattle.frames.specs.Building.{anAddress}
+use Rattle.transponder.specs.declared.state.Transponder.{Transponder}
+use Rattle.transponder.specs.State.{waiting}
+use Rattle.transponder.specs.History.{Aircraft, Call, queue, take}
+
+-- a line of the table, for one call: the number, and whether it is the case
+pub record Check : Type 0 where
+  pub number : ℕ
+  pub isCase : Bool
+
+abbrev pub check : ℕ → Bool → Check
+check n b = record { number = n; isCase = b }
+
+-- "checks run in the order of these numbers": the first that is the case gives its number, and 0 means done
+unfoldable pub given : List Check → ℕ
+given [] = 0
+given (c ∷ cs) = pick (c .isCase) (c .number) (given cs)
+
+-- 2, of a making: "address 1 to 16,777,214 .. FS, CA 0 to 7; AC and ID 13 bits"
+abbrev pub inRange : Aircraft → Bool
+inRange a = anAddress (a .address) && leb (a .ac) 8191 && leb (a .id) 8191 && leb (a .fs) 7 && leb (a .ca) 7
+
+abbrev pub makingChecks : Aircraft → List Check
+makingChecks a = check 2 (not (inRange a)) ∷ []
+
+-- the lines that a call can meet: 1 and 6 of a message, "not of 7 bytes" and "8 messages queued"; 1, 2 and 15 of a frame, "neither 7 nor 14" bytes,
+-- a draw that is not "0 to 15", and "model time before its last time"
+abbrev pub checks : Transponder → Call → List Check
+checks t (queue m b) = check 1 (not (eqb (length m) 7)) ∷ check 6 (eqb (length (waiting (t .messages))) 8) ∷ []
+checks t (take time draw f) = check 1 (not (whole (length f))) ∷ check 2 (ltb 15 draw) ∷ check 15 (ltb time (t .time)) ∷ []
