@@ -86,7 +86,7 @@ module _ (a : Aircraft) where
   holder-in now Nobody k = tt
   holder-in now (Held ii s) k = of-pick HolderIn (isOver now s) Nobody (Held ii s) tt k
 
-  kept-lapse : (now : ℕ) (t : Transponder) → Kept a t → Kept a (lapse now t)
+  pub kept-lapse : (now : ℕ) (t : Transponder) → Kept a t → Kept a (lapse now t)
   unfolding lapse timersAfter
   kept-lapse now t k =
       record {

@@ -5,3 +5,4 @@ pub mod Came
 pub mod Holding
 pub mod Keeping
 pub mod Numbers
+pub mod Sending

@@ -8,4 +8,5 @@ pub mod Calls
 pub mod History
 pub mod Numbers
 pub mod Kept
+pub mod Demands
 pub mod Examples
