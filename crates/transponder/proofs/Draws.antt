@@ -15,29 +15,33 @@ use Rattle.transponder.specs.declared.state.Transponder.{Transponder}
 use Rattle.transponder.specs.Lockout.{lockedTo}
 use Rattle.transponder.specs.Replies.{drawsBelow, free, answersFree, answersCode, answers}
 
--- how many of the 16 draws answer a PR
-abbrev pub answering : ℕ → ℕ
-answering pr = countBelow (λ draw. ltb draw (drawsBelow pr)) 16
+-- how many of the 16 draws answer an all-call of a code with a PR
+abbrev pub answering : ℕ → Interrogator → Transponder → ℕ
+answering pr c t = countBelow (λ draw. answersFree pr draw c t) 16
 
--- of the 16 draws exactly 16/2^p answer: PR 0 to 4
-pub draws-of : (p : ℕ) → p ≤ 4 → answering p ≡ 16 / 2 ^ p
+-- of the 16 draws exactly 16/2^p answer: PR 0 to 4, when the code is not locked
+pub draws-of : (p : ℕ) (c : Interrogator) (t : Transponder) → p ≤ 4 → lockedTo c (t .timers) ≡ false → answering p c t ≡ 16 / 2 ^ p
 unfolding drawsBelow countBelow
-draws-of zero h = refl
-draws-of (suc zero) h = refl
-draws-of (suc (suc zero)) h = refl
-draws-of (suc (suc (suc zero))) h = refl
-draws-of (suc (suc (suc (suc zero)))) h = refl
-draws-of (suc (suc (suc (suc (suc p))))) h = absurd (omega arith)
+draws-of zero c t h e = rw e
+draws-of (suc zero) c t h e = rw e
+draws-of (suc (suc zero)) c t h e = rw e
+draws-of (suc (suc (suc zero))) c t h e = rw e
+draws-of (suc (suc (suc (suc zero)))) c t h e = rw e
+draws-of (suc (suc (suc (suc (suc p))))) c t h e = absurd (omega arith)
 
--- PR 8 to 12 as PR 0 to 4
-pub same-draws : (p : ℕ) → p ≤ 4 → answering (8 + p) ≡ answering p
+-- none when it is locked
+pub none-while-locked : (pr draw : ℕ) (c : Interrogator) (t : Transponder) → pr < 8 → lockedTo c (t .timers) ≡ true → answersFree pr draw c t ≡ false
+none-while-locked pr draw c t h e = rw (lt-leb 8 pr h, e)
+
+-- PR 8 to 12 as PR 0 to 4, locked or not
+pub draws-free : (p : ℕ) (c : Interrogator) (t : Transponder) → p ≤ 4 → answering (8 + p) c t ≡ 16 / 2 ^ p
 unfolding drawsBelow countBelow
-same-draws zero h = refl
-same-draws (suc zero) h = refl
-same-draws (suc (suc zero)) h = refl
-same-draws (suc (suc (suc zero))) h = refl
-same-draws (suc (suc (suc (suc zero)))) h = refl
-same-draws (suc (suc (suc (suc (suc p))))) h = absurd (omega arith)
+draws-free zero c t h = refl
+draws-free (suc zero) c t h = refl
+draws-free (suc (suc zero)) c t h = refl
+draws-free (suc (suc (suc zero))) c t h = refl
+draws-free (suc (suc (suc (suc zero)))) c t h = refl
+draws-free (suc (suc (suc (suc (suc p))))) c t h = absurd (omega arith)
 
 -- another PR is answered by none
 pub no-draw : (pr : ℕ) → 4 < pr → ((8 ≤ pr) → (pr ≤ 12) → ⊥) → drawsBelow pr ≡ 0

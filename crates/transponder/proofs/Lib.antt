@@ -3,6 +3,7 @@ pub mod Timing
 pub mod Draws
 pub mod Came
 pub mod Holding
+pub mod Closing
 pub mod Keeping
 pub mod Numbers
 pub mod Sending

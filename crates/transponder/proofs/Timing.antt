@@ -2,18 +2,22 @@
 -- Assumes nothing.
 use Prim.Native.Nat.{ℕ, _+_, _-_, _<_, _≤_}
 use native.Mathlib.Omega.{arith}
-use mathlib.Core.Path.{_≡_}
-use mathlib.Core.Bool.{true, false}
-use borrow.Author.Tests.{le-leb, lt-leb}
-use lib.ListN.{length, getD, List·getD-map}
-use lib.Seq.{getD-set-same, getD-set-other}
+use mathlib.Core.Path.{_≡_, refl}
+use mathlib.Core.Bool.{Bool, true, false, _||_}
+use mathlib.Core.Logic.{_⊎_, inl, inr}
+use lib.Dec.{eqb}
+use borrow.Author.Tests.{eqb-true, eqb-false, ne-eqb, le-leb, lt-leb}
+use lib.ListN.{length, getD, length-set, List·getD-map}
+use lib.Seq.{getD-set-same, getD-set-other, set-out}
+use Rattle.lists.specs.Lists.{pick}
 use Rattle.frames.specs.declared.answers.Interrogator.{Interrogator}
-use Rattle.frames.specs.declared.answers.Interrogator.the-variants.{II, SI}
+use Rattle.frames.specs.declared.answers.Interrogator.the-variants.{II, SI, Nobody}
 use Rattle.transponder.specs.declared.state.Lock.the-variants.{Since}
 use Rattle.transponder.specs.declared.state.Timers.{Timers}
+use Rattle.transponder.specs.declared.state.Transponder.{Transponder}
 use Rattle.transponder.specs.State.{placeOf, idle, started}
 use Rattle.transponder.specs.Lapse.{timerAfter, timersAfter}
-use Rattle.transponder.specs.Lockout.{lockedTo}
+use Rattle.transponder.specs.Lockout.{iis, los, sis, lss, commandOfPC, startedByLOS, startedByLSS, commandOfSD, commanded, lockout, locks, lockedTo}
 
 -- what stands at a code's place after a lapse is what stood there, lapsed
 at-place : (code : Interrogator) (now : ℕ) (t : Timers) → getD (timersAfter now t .list) (placeOf code) idle ≡ timerAfter now (getD (t .list) (placeOf code) idle)
@@ -62,3 +66,80 @@ ii-one n m e = e
 
 pub si-one : (n m : ℕ) → placeOf (SI m) ≡ placeOf (SI n) → m ≡ n
 si-one n m e = omega arith
+
+-- ---- which command starts which timer
+timers-stay : (t : Timers) (place time p : ℕ) → p < length (t .list) → p < length (started place time t .list)
+unfolding started
+timers-stay t place time p h = simp length-set h
+
+-- the timer that a code starts locks, and a timer that locks still does when any is started
+start-locks : (c : Interrogator) (time : ℕ) (t : Timers) → placeOf c < length (t .list) → lockedTo c (started (placeOf c) time t) ≡ true
+unfolding lockedTo
+start-locks c time t h = rw (own-timer c time t h)
+
+still-locks : (c other : Interrogator) (time : ℕ) (t : Timers) → placeOf c < length (t .list) → lockedTo c t ≡ true → lockedTo c (started (placeOf other) time t) ≡ true
+unfolding lockedTo
+still-locks c other time t h e = go (eqb (placeOf c) (placeOf other)) refl
+  where
+    go : (b : Bool) → eqb (placeOf c) (placeOf other) ≡ b → locks (getD (started (placeOf other) time t .list) (placeOf c) idle .lock) ≡ true
+    go true p = rw (← eqb-true (placeOf c) (placeOf other) p, own-timer c time t h)
+    go false p = rw (other-timer other c time t (eqb-false (placeOf c) (placeOf other) p)) e
+
+-- of a transponder with its 79 timers
+module _ (pc di sd : ℕ) (t : Transponder) (h : length (t .timers .list) ≡ 79) where
+  -- "PC 1 starts II 0"
+  pub pc-1-locks : pc ≡ 1 → lockedTo (II 0) (lockout pc di sd t .timers) ≡ true
+  unfolding lockout commanded
+  pc-1-locks e =
+      rw e
+      (still-locks (II 0) (commandOfSD di sd) (t .time) (started 0 (t .time) (t .timers)) (timers-stay (t .timers) 0 (t .time) 0 (omega (arith, h))) (start-locks (II 0) (t .time) (t .timers) (omega (arith, h))))
+
+  -- the code that SD commands is locked
+  sd-locks : (c : Interrogator) → commandOfSD di sd ≡ c → placeOf c < 79 → lockedTo c (lockout pc di sd t .timers) ≡ true
+  unfolding lockout commanded
+  sd-locks c e p = rw e (start-locks c (t .time) (started (placeOf (commandOfPC pc)) (t .time) (t .timers)) (timers-stay (t .timers) (placeOf (commandOfPC pc)) (t .time) (placeOf c) (omega (arith, h, p))))
+
+  -- "DI 1 or 7 with LOS (bit 26) starts the II in bits 17-20"
+  pub los-locks : (di ≡ 1) ⊎ (di ≡ 7) → los sd ≡ 1 → lockedTo (II (iis sd)) (lockout pc di sd t .timers) ≡ true
+  unfolding commandOfSD startedByLOS
+  los-locks d e = sd-locks (II (iis sd)) (by d) (omega arith)
+    where
+      by : (di ≡ 1) ⊎ (di ≡ 7) → commandOfSD di sd ≡ II (iis sd)
+      by (inl q) = rw (q, e)
+      by (inr q) = rw (q, e)
+
+  -- "DI 3 with LSS (bit 23) starts the SI in 17-22; SI 0 starts none"
+  pub lss-locks : di ≡ 3 → lss sd ≡ 1 → (sis sd ≡ 0 → ⊥) → lockedTo (SI (sis sd)) (lockout pc di sd t .timers) ≡ true
+  unfolding commandOfSD startedByLSS
+  lss-locks d e n = sd-locks (SI (sis sd)) (rw (d, e, ne-eqb (sis sd) 0 n)) (omega arith)
+
+-- no other command starts one: LOS is read for DI 1 and 7 alone, LSS for DI 3 alone
+pub no-command : (di sd : ℕ) → (di ≡ 1 → ⊥) → (di ≡ 3 → ⊥) → (di ≡ 7 → ⊥) → commandOfSD di sd ≡ Nobody
+unfolding commandOfSD
+no-command di sd a b c = rw (ne-eqb di 1 a, ne-eqb di 7 c, ne-eqb di 3 b)
+
+pub without-los : (di sd : ℕ) → (di ≡ 3 → ⊥) → (los sd ≡ 1 → ⊥) → commandOfSD di sd ≡ Nobody
+unfolding commandOfSD startedByLOS
+without-los di sd a b = rw (ne-eqb di 3 a, ne-eqb (los sd) 1 b) (go (eqb di 1 || eqb di 7))
+  where
+    go : (x : Bool) → pick x Nobody Nobody ≡ Nobody
+    go true = refl
+    go false = refl
+
+pub without-lss : (sd : ℕ) → (lss sd ≡ 1 → ⊥) → commandOfSD 3 sd ≡ Nobody
+unfolding commandOfSD startedByLSS
+without-lss sd b = rw (ne-eqb (lss sd) 1 b)
+
+pub si-0-starts-none : (sd : ℕ) → sis sd ≡ 0 → commandOfSD 3 sd ≡ Nobody
+unfolding commandOfSD startedByLSS
+si-0-starts-none sd e = rw e (go (eqb (lss sd) 1))
+  where
+    go : (x : Bool) → pick x Nobody Nobody ≡ Nobody
+    go true = refl
+    go false = refl
+
+-- nobody's command changes no timer
+pub no-timer : (pc di sd : ℕ) (t : Transponder) → length (t .timers .list) ≡ 79 → (pc ≡ 1 → ⊥) → commandOfSD di sd ≡ Nobody → lockout pc di sd t ≡ t
+unfolding lockout commanded started
+no-timer pc di sd t h n e =
+    rw (ne-eqb pc 1 n, e, set-out (t .timers .list) 79 (record { lock = Since (t .time) }) (omega (arith, h)), set-out (t .timers .list) 79 (record { lock = Since (t .time) }) (omega (arith, h)))
