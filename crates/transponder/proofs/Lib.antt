@@ -1,4 +1,5 @@
--- The theorems of the transponder: timers, draws, what a frame does, and who holds.
+-- The theorems of the transponder: examples, timers, draws, what a call comes to, who holds, what every history keeps, numbers and replies.
+pub mod Agreed
 pub mod Timing
 pub mod Draws
 pub mod Came
@@ -7,3 +8,4 @@ pub mod Closing
 pub mod Keeping
 pub mod Numbers
 pub mod Sending
+pub mod Demands

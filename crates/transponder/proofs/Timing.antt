@@ -6,17 +6,17 @@ use mathlib.Core.Path.{_≡_, refl}
 use mathlib.Core.Bool.{Bool, true, false, _||_}
 use mathlib.Core.Logic.{_⊎_, inl, inr}
 use lib.Dec.{eqb}
-use borrow.Author.Tests.{eqb-true, eqb-false, ne-eqb, le-leb, lt-leb}
+use borrow.Author.Tests.{eqb-true, eqb-false, ne-eqb, leb-true, leb-false}
 use lib.ListN.{length, getD, length-set, List·getD-map}
 use lib.Seq.{getD-set-same, getD-set-other, set-out}
 use Rattle.lists.specs.Lists.{pick}
 use Rattle.frames.specs.declared.answers.Interrogator.{Interrogator}
 use Rattle.frames.specs.declared.answers.Interrogator.the-variants.{II, SI, Nobody}
-use Rattle.transponder.specs.declared.state.Lock.the-variants.{Since}
+use Rattle.transponder.specs.declared.state.Lock.the-variants.{Never, Since}
 use Rattle.transponder.specs.declared.state.Timers.{Timers}
 use Rattle.transponder.specs.declared.state.Transponder.{Transponder}
 use Rattle.transponder.specs.State.{placeOf, idle, started}
-use Rattle.transponder.specs.Lapse.{timerAfter, timersAfter}
+use Rattle.transponder.specs.Lapse.{lasting, isOver, timerAfter, timersAfter}
 use Rattle.transponder.specs.Lockout.{iis, los, sis, lss, commandOfPC, startedByLOS, startedByLSS, commandOfSD, commanded, lockout, locks, lockedTo}
 
 -- what stands at a code's place after a lapse is what stood there, lapsed
@@ -28,11 +28,19 @@ at-place code now t = List·getD-map (timerAfter now) (t .list) (placeOf code) i
 module _ (code : Interrogator) (now s : ℕ) (t : Timers) (e : getD (t .list) (placeOf code) idle ≡ record { lock = Since s }) where
   pub locked-while : now - s < 180 → lockedTo code (timersAfter now t) ≡ true
   unfolding lockedTo timerAfter
-  locked-while h = rw (at-place code now t, e, lt-leb 180 (now - s) h)
+  locked-while h = rw (at-place code now t, e) (go (isOver now s) refl)
+    where
+      go : (b : Bool) → isOver now s ≡ b → locks (pick b Never (Since s)) ≡ true
+      go true p = let q = leb-true lasting (now - s) p in absurd (omega (arith, q, h))
+      go false p = refl
 
   pub free-after : 180 ≤ now - s → lockedTo code (timersAfter now t) ≡ false
   unfolding lockedTo timerAfter
-  free-after h = rw (at-place code now t, e, le-leb 180 (now - s) h)
+  free-after h = rw (at-place code now t, e) (go (isOver now s) refl)
+    where
+      go : (b : Bool) → isOver now s ≡ b → locks (pick b Never (Since s)) ≡ false
+      go true p = refl
+      go false p = let q = leb-false lasting (now - s) p in absurd (omega (arith, q, h))
 
 -- "locked 179 tenths after, free at 180"
 module _ (code : Interrogator) (s : ℕ) (t : Timers) (e : getD (t .list) (placeOf code) idle ≡ record { lock = Since s }) where

@@ -2,25 +2,13 @@
 -- Assumes nothing.
 use Prim.Native.Nat.{ℕ, _+_, _<_}
 use native.Mathlib.Omega.{arith}
-use mathlib.Core.Path.{refl}
 use mathlib.Core.List.{List, [], _∷_, _++_}
-use lib.ListN.{getD, take}
-use Rattle.lists.specs.Lists.{over}
-use Rattle.lists.specs.Listing.{Row, row, Agrees}
-use Rattle.parity.specs.Messages.{bits}
-use Rattle.parity.specs.Division.{shiftIn, divide, remainderOf}
-use Rattle.parity.specs.Overlays.{lowBits, times, overlayOf}
+use lib.ListN.{getD, take, replicate}
+use Rattle.lists.specs.Listing.{Row, row}
 use Rattle.frames.specs.Building as frames
-use Rattle.frames.specs.Fields.{bitsTo, laid, headOf, midOf, selectiveHead, allCallHead, replyHead, allCallReplyHead}
-use Rattle.frames.specs.Frames.{front, sealed}
-use Rattle.frames.specs.Reading.{readAs, readDown, selectiveRead, allCallRead, surveillanceRead}
-use Rattle.frames.specs.Shared.{codeFor, drawn}
-use Rattle.transponder.specs.State.{started, messagesWith, messagesAfter}
-use Rattle.transponder.specs.Lapse.{timerAfter, timersAfter, lapse}
-use Rattle.transponder.specs.Lockout.{startedByLOS, startedByLSS, commandOfSD, commanded, lockout, lockedTo}
-use Rattle.transponder.specs.CommB.{reserve, closeout}
-use Rattle.transponder.specs.Replies.{sending, respond, drawsBelow, answers, answerAllCall}
-use Rattle.transponder.specs.Calls.{newborn, makeRanged, making, queuing, steps, interrogated, laidOver, heardSelective, heardAllCall, taking}
+use Rattle.frames.specs.Fields.{bitsTo, laid}
+use Rattle.frames.specs.Reading.{readDown}
+use Rattle.transponder.specs.Calls.{queuing, taking}
 use Rattle.transponder.specs.History as history
 use Rattle.transponder.specs.History.{Aircraft, Call, after}
 
@@ -146,11 +134,28 @@ closeouts =
     ∷ row (shown (tail 0xAA (omega arith) ∷ ask 0 4 0 1 (iis 3 + mbs 1) ∷ []) 0 0 16 0 0) (1 ∷ 0 ∷ 0xAA ∷ [])
     ∷ []
 
--- ---- all of them
-abbrev pub listing : List Row
-listing = lockouts ++ (draws ++ (messages ++ closeouts))
+-- ---- refusals, after a frame at 100
+-- the number of a frame with its time and draw, the transponder's time after it, and the bytes sent
+abbrev judged : ℕ → ℕ → List ℕ → List ℕ
+judged time draw f =
+    let r = taking (after aircraft (ask 100 0 0 0 0 ∷ [])) time draw f in
+    r .number ∷ r .transponder .time ∷ r .length ∷ []
 
--- the one claim
-pub listing-agrees : Agrees listing
-unfolding bits shiftIn divide remainderOf lowBits times overlayOf over frames.replyRanged frames.allCallReplyRanged frames.selective frames.allCall frames.aReply frames.anAllCallReply frames.replying frames.allCallReplying headOf midOf selectiveHead allCallHead replyHead allCallReplyHead front sealed readAs selectiveRead allCallRead surveillanceRead codeFor drawn started messagesWith messagesAfter timerAfter timersAfter lapse startedByLOS startedByLSS commandOfSD commanded lockout lockedTo reserve closeout sending respond drawsBelow answers answerAllCall newborn makeRanged making queuing steps interrogated laidOver heardSelective heardAllCall taking after
-listing-agrees = (refl, (refl, (refl, (refl, (refl, (refl, (refl, (refl, (refl, (refl, (refl, (refl, (refl, (refl, (refl, (refl, (refl, (refl, (refl, (refl, (refl, (refl, (refl, (refl, (refl, (refl, (refl, (refl, (refl, (refl, (refl, tt)))))))))))))))))))))))))))))))
+abbrev refusals : List Row
+refusals =
+    -- equal times are taken; a time before the last is 15 and does not move it
+    row (judged 100 0 (asking 0 0 0 0)) (0 ∷ 100 ∷ 7 ∷ [])
+    ∷ row (judged 99 0 (asking 0 0 0 0)) (15 ∷ 100 ∷ 0 ∷ [])
+    -- a draw above 15 is 2 for any frame, and 13 bytes are 1
+    ∷ row (judged 200 16 (asking 0 0 0 0)) (2 ∷ 100 ∷ 0 ∷ [])
+    ∷ row (judged 99 16 (replicate 13 0)) (1 ∷ 100 ∷ 0 ∷ [])
+    -- a frame for another address, or of another format, only moves time
+    ∷ row (judged 200 0 (frames.selective 4 0 0 0 0 0 0x484FDF)) (0 ∷ 200 ∷ 0 ∷ [])
+    ∷ row (judged 200 0 (replicate 7 0)) (0 ∷ 200 ∷ 0 ∷ [])
+    -- the ninth message is 6, and one of 6 bytes is 1
+    ∷ row (queuing (after aircraft (two ++ (two ++ (two ++ two)))) (replicate 7 0) .number ∷ queuing (after aircraft (one ++ (two ++ (two ++ two)))) (replicate 7 0) .number ∷ queuing (after aircraft []) (replicate 6 0) .number ∷ []) (6 ∷ 0 ∷ 1 ∷ [])
+    ∷ []
+
+-- ---- all of them; proofs/Agreed.antt has the one claim
+abbrev pub listing : List Row
+listing = lockouts ++ (draws ++ (messages ++ (closeouts ++ refusals)))
