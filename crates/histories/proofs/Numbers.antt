@@ -1,13 +1,14 @@
 -- Demand 1, numbers: what a call of a history is given is what document 01's table says.
 use borrow.Author.Tests.{eqb-true, ne-eqb, ltb-true, lt-ltb, le-leb, leb-true, not-false}
-use Prim.Native.Nat.{ℕ, zero, suc, _≤_, _<_}
+use Prim.Native.Nat.{ℕ, _≤_, _<_}
 use native.Mathlib.Omega.{arith}
 use mathlib.Core.Path.{_≡_, refl, sym, ap, _∙_}
 use mathlib.Core.List.{List, [], _∷_}
 use mathlib.Core.Bool.{Bool, true, false, not, _&&_}
 use lib.Dec.{eqb, leb, ltb}
 use lib.ListN.{length, getD}
-use Rattle.lists.specs.Lists.{pick, every, All}
+use Rattle.lists.specs.Lists.{pick, every}
+use Rattle.lists.proofs.Each.{all-at}
 use Rattle.lists.proofs.Tests.{and-left, and-right, and-yes}
 use Rattle.parity.specs.Answers.{Outcome, refused}
 use Rattle.parity.specs.Messages.{bits}
@@ -26,7 +27,8 @@ use Rattle.histories.specs.State.{inList, entriesOf, noEntry, emptied}
 use Rattle.histories.specs.Calls as calls
 use Rattle.histories.specs.Replies.{expected, entryNumbered, isOpen, startOf, inWindow, ofFormat, Replied, refusedReply, settled, corrected, replied}
 use Rattle.histories.specs.History.{Call, setup, new, remove, move, request, plan, reply, report, answer, after}
-use Rattle.histories.specs.Numbers.{given, setupRanged, sharesGood, requestAt, replyChecks, checks}
+use Rattle.lists.specs.Checks.{given}
+use Rattle.histories.specs.Numbers.{setupRanged, sharesGood, requestAt, replyChecks, checks}
 use Rattle.histories.specs.Kept.{Entered, Kept}
 use Rattle.histories.proofs.Keeping.{always-kept, unit-of, six}
 
@@ -80,12 +82,6 @@ module _ (s : Station) where
   check-reply out false n m y e = e refl
 
 -- ---- a reply
-all-at : {A : Type 0} (P : A → Type 0) (v : List A) (d : A) (k : ℕ) → All P v → k < length v → P (getD v k d)
-unfolding All
-all-at P [] d k h l = absurd (omega arith)
-all-at P (x ∷ v) d zero h l = h .0
-all-at P (x ∷ v) d (suc k) h l = all-at P v d k (h .1) (omega arith)
-
 address-in : (q : Request) → calls.requestRanged q ≡ true → q .address ≤ 16777214
 unfolding calls.requestRanged
 address-in q e =

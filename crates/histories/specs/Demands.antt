@@ -11,7 +11,8 @@ use Rattle.histories.specs.Calls.{reported}
 use Rattle.histories.specs.Planning.{asked, askFor, nextPlan}
 use Rattle.histories.specs.Replies.{Replied, expected, replied}
 use Rattle.histories.specs.History.{Call, answer, after}
-use Rattle.histories.specs.Numbers.{given, checks, requestAt}
+use Rattle.lists.specs.Checks.{given}
+use Rattle.histories.specs.Numbers.{checks, requestAt}
 use Rattle.histories.specs.Seen.{Kind, events, lastSaid, shown, reportOf}
 
 -- demand 1: each number is given exactly when the table says, and a refusal changes nothing, neither the station nor a lent buffer

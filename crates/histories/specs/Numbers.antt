@@ -4,7 +4,8 @@ use mathlib.Core.List.{List, [], _∷_}
 use mathlib.Core.Bool.{Bool, not, _&&_}
 use lib.ListN.{length, getD}
 use lib.Dec.{eqb, leb, ltb}
-use Rattle.lists.specs.Lists.{pick, countOf, every}
+use Rattle.lists.specs.Checks.{Check, check}
+use Rattle.lists.specs.Lists.{countOf, every}
 use Rattle.parity.specs.Messages.{bits}
 use Rattle.parity.specs.Correction.{weight, matching, want, flipped, sized}
 use Rattle.frames.specs.Formats.{lengthOf}
@@ -18,19 +19,6 @@ use Rattle.histories.specs.State.{inList, targetsOf, requestsOf, isOf, e
 use Rattle.histories.specs.Calls.{targetRanged, requestRanged}
 use Rattle.histories.specs.Replies.{entryNumbered, isOpen, expected, startOf, inWindow}
 use Rattle.histories.specs.History.{Call, setup, new, remove, move, request, plan, reply, report}
-
--- a line of the table, for one call: the number, and whether it is the case
-pub record Check : Type 0 where
-  pub number : ℕ
-  pub isCase : Bool
-
-abbrev pub check : ℕ → Bool → Check
-check n b = record { number = n; isCase = b }
-
--- "checks run in the order of these numbers": the first that is the case gives its number, and 0 means done
-unfoldable pub given : List Check → ℕ
-given [] = 0
-given (c ∷ cs) = pick (c .isCase) (c .number) (given cs)
 
 -- ---- the lines of the table
 -- 2, of a setup: "correction limit 0 to 12 .. reach R 0 to 13,000; guarantee and ceiling 0 to 16"; a period has 16 bits

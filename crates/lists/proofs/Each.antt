@@ -1,14 +1,20 @@
--- What holds of each element, where one is replaced, where some are kept, and of the images under a function.
-use Prim.Native.Nat.{ℕ, zero, suc, _≤_}
+-- What holds of each element: at a place, where one is replaced, where some are kept, and of the images under a function.
+use Prim.Native.Nat.{ℕ, zero, suc, _≤_, _<_}
 use native.Mathlib.Omega.{arith}
 use mathlib.Core.Path.{_≡_, refl, sym, ap, _∙_}
 use mathlib.Core.List.{List, [], _∷_, map}
 use mathlib.Core.Bool.{Bool, true, false, not}
-use lib.ListN.{set}
+use lib.ListN.{length, getD, set}
 use Rattle.lists.specs.Lists.{pick, countOf, filter, All}
 use Rattle.lists.proofs.Count.{count-nil, count-yes, count-no}
 
 module _ {A : Type 0} where
+  pub all-at : (P : A → Type 0) (v : List A) (d : A) (k : ℕ) → All P v → k < length v → P (getD v k d)
+  unfolding All
+  all-at P [] d k h l = absurd (omega arith)
+  all-at P (x ∷ v) d zero h l = h .0
+  all-at P (x ∷ v) d (suc k) h l = all-at P v d k (h .1) (omega arith)
+
   pub all-set : (P : A → Type 0) (v : List A) (i : ℕ) (y : A) → P y → All P v → All P (set v i y)
   unfolding All
   all-set P [] i y p h = tt

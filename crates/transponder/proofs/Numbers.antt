@@ -17,7 +17,8 @@ use Rattle.transponder.specs.declared.state.Took.{Took}
 use Rattle.transponder.specs.State.{waiting}
 use Rattle.transponder.specs.Calls.{newborn, makeRanged, making, queuing, refusing, taking}
 use Rattle.transponder.specs.History.{Aircraft, made, Call, queue, take, answer, after}
-use Rattle.transponder.specs.Numbers.{given, inRange, makingChecks, checks}
+use Rattle.lists.specs.Checks.{given}
+use Rattle.transponder.specs.Numbers.{inRange, makingChecks, checks}
 use Rattle.transponder.proofs.Keeping.{always-kept}
 
 -- ---- a making

@@ -17,7 +17,8 @@ use Rattle.transponder.specs.Lapse.{lapse}
 use Rattle.transponder.specs.Replies.{sentBytes, drOf, umOf, mbOf, answers}
 use Rattle.transponder.specs.Calls.{laidOver, taking}
 use Rattle.transponder.specs.History.{Aircraft, Call, take, answer, after}
-use Rattle.transponder.specs.Numbers.{given, checks}
+use Rattle.lists.specs.Checks.{given}
+use Rattle.transponder.specs.Numbers.{checks}
 
 -- what is sent with a frame's answer
 abbrev pub sentBy : Took → Sent

@@ -1,29 +1,15 @@
 -- Numbers given back: document 01's table, as the checks of each call of the model in their order.
 -- Assumes nothing: these are definitions.
-use Prim.Native.Nat.{ℕ}
 use mathlib.Core.List.{List, [], _∷_}
 use mathlib.Core.Bool.{Bool, not, _&&_}
 use lib.ListN.{length}
 use lib.Dec.{eqb, leb, ltb}
-use Rattle.lists.specs.Lists.{pick}
+use Rattle.lists.specs.Checks.{Check, check}
 use Rattle.parity.specs.Messages.{whole}
 use Rattle.frames.specs.Building.{anAddress}
 use Rattle.transponder.specs.declared.state.Transponder.{Transponder}
 use Rattle.transponder.specs.State.{waiting}
 use Rattle.transponder.specs.History.{Aircraft, Call, queue, take}
-
--- a line of the table, for one call: the number, and whether it is the case
-pub record Check : Type 0 where
-  pub number : ℕ
-  pub isCase : Bool
-
-abbrev pub check : ℕ → Bool → Check
-check n b = record { number = n; isCase = b }
-
--- "checks run in the order of these numbers": the first that is the case gives its number, and 0 means done
-unfoldable pub given : List Check → ℕ
-given [] = 0
-given (c ∷ cs) = pick (c .isCase) (c .number) (given cs)
 
 -- 2, of a making: "address 1 to 16,777,214 .. FS, CA 0 to 7; AC and ID 13 bits"
 abbrev pub inRange : Aircraft → Bool
