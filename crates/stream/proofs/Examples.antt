@@ -1,14 +1,13 @@
 -- Lines of document 01, computed: the first plan line of case P1, a report of nothing heard, and the edges of the rules.
 use mathlib.Core.Path.{_≡_, refl}
-use mathlib.Core.Bool.{true, false}
 use lib.IntN.{negsuc}
 use Rattle.text.specs.Put.{decimalIn, decimal}
 use Rattle.text.specs.Signed.{signedDecimal}
 use Rattle.text.specs.Plain.{plain}
 use Rattle.planner.specs.declared.request.Ask.{Ask}
 use Rattle.planner.specs.Exchange.{sentFor, replyFor, entryAt}
-use Rattle.stream.specs.declared.report.Value.{Value}
-use Rattle.stream.specs.Lines.{line, answerLine, replyLine, entryLine, heardWord, reportLine}
+use Rattle.histories.specs.declared.state.Value.the-variants.{Never, Heard}
+use Rattle.stream.specs.Lines.{line, answerLine, replyLine, entryLine, valueWord, ageWord, reportLine}
 
 -- case P1: unit 0 asks address 1 with UF 20 and RR 16; near 2000, far 2010
 abbrev asked : Ask
@@ -32,17 +31,11 @@ early-reply : replyLine 12 7 3 (negsuc 0) ≡ plain "12 7 0 3 -1\n"
 unfolding replyLine line decimal decimalIn signedDecimal
 early-reply = refl
 
-abbrev never : Value
-never = record { heard = false; value = 0; age = 0 }
-
--- an AC of 0 that was heard at the last plan
-abbrev zero-heard : Value
-zero-heard = record { heard = true; value = 0; age = 0 }
-
-nothing-heard : reportLine never never ≡ plain "- - - -\n"
-unfolding reportLine line heardWord
+nothing-heard : reportLine Never Never ≡ plain "- - - -\n"
+unfolding reportLine line valueWord ageWord
 nothing-heard = refl
 
-heard-zero : reportLine zero-heard never ≡ plain "0 0 - -\n"
-unfolding reportLine line heardWord decimal decimalIn
+-- an AC of 0 that was heard after the last plan
+heard-zero : reportLine (Heard 0 0) Never ≡ plain "0 0 - -\n"
+unfolding reportLine line valueWord ageWord decimal decimalIn
 heard-zero = refl

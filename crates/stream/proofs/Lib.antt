@@ -1,4 +1,5 @@
--- The laws of lines: for the crate's own proofs and for its callers.
+-- The laws of lines and of runs: for the crate's own proofs and for its callers.
 pub mod PlanLines
 pub mod Lengths
+pub mod Runs
 mod Examples

@@ -5,11 +5,11 @@ use mathlib.Core.Path.{_≡_}
 use mathlib.Core.List.{List, [], _∷_, _++_}
 use lib.ListN.{length, getD, take, drop}
 use Rattle.lists.proofs.Front.{front-drop, front-end}
-use Rattle.text.specs.Put.{Put, decimal}
+use Rattle.text.specs.Put.{decimal}
 use Rattle.planner.specs.declared.entry.Entry.{Entry}
 use Rattle.planner.specs.declared.exchange.Exchange.{Exchange}
 use Rattle.planner.specs.Exchange.{exchangeOf}
-use Rattle.stream.specs.Lines.{line, entryLine, entryLines}
+use Rattle.stream.specs.Lines.{Within, line, entryLine, entryLines}
 
 pub entries-more : (m : ℕ) (l : List Entry) (i : ℕ) (d : Entry) → i < min m (length l)
     → entryLines i (drop i (take m l)) ≡ entryLine i (getD l i d) ++ entryLines (i + 1) (drop (i + 1) (take m l))
@@ -22,7 +22,8 @@ entries-none m l i b = rw (front-end m l i b)
 
 -- an entry's line by its exchange
 pub entry-put : (k : ℕ) (e : Entry) {x : Exchange} → x ≡ exchangeOf (e .ask) → {at r : ℕ} {l m : List ℕ}
-    → Put
+    → Within
+    72
     (line
     (decimal k
     ∷ decimal (e .ask .request .unit)
@@ -35,6 +36,6 @@ pub entry-put : (k : ℕ) (e : Entry) {x : Exchange} → x ≡ exchangeOf (e .as
     l
     m
     r
-    → Put (entryLine k e) at l m r
+    → Within 72 (entryLine k e) at l m r
 unfolding entryLine
 entry-put k e h p = rw h at p

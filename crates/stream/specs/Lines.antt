@@ -1,14 +1,18 @@
 -- The lines that records print: decimal numbers parted by single spaces, each line ended by a newline.
-use Prim.Native.Nat.{ℕ, suc}
-use mathlib.Core.Bool.{Bool}
+use Prim.Native.Nat.{ℕ, suc, _+_, _≤_}
 use mathlib.Core.List.{List, [], _∷_, _++_}
 use lib.IntN.{ℤ}
-use Rattle.lists.specs.Lists.{pick}
-use Rattle.text.specs.Put.{decimal}
+use Rattle.text.specs.Put.{Put, decimal}
 use Rattle.text.specs.Signed.{signedDecimal}
 use Rattle.planner.specs.declared.entry.Entry.{Entry}
 use Rattle.planner.specs.Exchange.{listens}
-use Rattle.stream.specs.declared.report.Value.{Value}
+use Rattle.histories.specs.declared.state.Value.{Value}
+use Rattle.histories.specs.declared.state.Value.the-variants.{Never, Heard}
+
+-- a call laid a text of at most k bytes into a buffer at a place, and answered the place after it
+pub record Within (k : ℕ) (t : List ℕ) (at : ℕ) (before after : List ℕ) (r : ℕ) : Type 0 where
+  pub put : Put t at before after r
+  pub short : r ≤ at + k
 
 -- a word and the byte behind it
 abbrev pub followed : List ℕ → ℕ → List ℕ
@@ -45,16 +49,16 @@ unfoldable pub entryLines : ℕ → List Entry → List ℕ
 entryLines k [] = []
 entryLines k (e ∷ es) = entryLine k e ++ entryLines (suc k) es
 
--- a number of what was heard, and "-" where it was never heard
-unfoldable pub heardWord : Bool → ℕ → List ℕ
-heardWord heard x = pick heard (decimal x) (45 ∷ [])
+-- AC or ID, and "-" (45) where it was never heard
+unfoldable pub valueWord : Value → List ℕ
+valueWord Never = 45 ∷ []
+valueWord (Heard value age) = decimal value
+
+-- its age, and "-" where it was never heard
+unfoldable pub ageWord : Value → List ℕ
+ageWord Never = 45 ∷ []
+ageWord (Heard value age) = decimal age
 
 -- AC, its age, ID, its age
 unfoldable pub reportLine : Value → Value → List ℕ
-reportLine ac id =
-    line
-    (heardWord (ac .heard) (ac .value)
-    ∷ heardWord (ac .heard) (ac .age)
-    ∷ heardWord (id .heard) (id .value)
-    ∷ heardWord (id .heard) (id .age)
-    ∷ [])
+reportLine ac id = line (valueWord ac ∷ ageWord ac ∷ valueWord id ∷ ageWord id ∷ [])

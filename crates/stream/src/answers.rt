@@ -1,13 +1,12 @@
 // The line that every record prints: number, kind, answer.
-ghost use Rattle.text.specs.Put.{Put};
-ghost use Rattle.stream.specs.Lines.{answerLine, replyLine};
+ghost use Rattle.stream.specs.Lines.{Within, answerLine, replyLine};
 use crate::words::NEWLINE;
 use crate::words::SPACE;
 use crate::words::put_number;
 
 // Number, kind, answer.
 pub fn put_answer(out: &mut [u8], at: usize, n: u32, kind: u8, answer: u8) -> usize
-    ensures { λ r. ⌜ Put (answerLine n kind answer) at (now (out .entry)) (now (out .exit)) r ⌝ }
+    ensures { λ r. ⌜ Within 36 (answerLine n kind answer) at (now (out .entry)) (now (out .exit)) r ⌝ }
 {
     let at_kind = put_number(out, at, n, SPACE);
     let at_answer = put_number(out, at_kind, kind as u32, SPACE);
@@ -23,7 +22,7 @@ pub fn put_reply_answer(
     flips: u32,
     delay: i32,
 ) -> usize
-    ensures { λ r. ⌜ Put (replyLine n kind flips delay) at (now (out .entry)) (now (out .exit)) r ⌝ }
+    ensures { λ r. ⌜ Within 60 (replyLine n kind flips delay) at (now (out .entry)) (now (out .exit)) r ⌝ }
 {
     let at_kind = put_number(out, at, n, SPACE);
     let at_answer = put_number(out, at_kind, kind as u32, SPACE);

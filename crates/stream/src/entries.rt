@@ -3,8 +3,8 @@ ghost use Prim.Native.Nat.{_≤_, min};
 ghost use mathlib.Core.Path.{_≡_};
 ghost use mathlib.Core.List.{_∷_, []};
 ghost use lib.ListN.{take};
-ghost use Rattle.text.specs.Put.{Put, decimal};
-ghost use Rattle.stream.specs.Lines.{line, entryLine, entryLines};
+ghost use Rattle.text.specs.Put.{decimal};
+ghost use Rattle.stream.specs.Lines.{Within, line, entryLine, entryLines};
 use crate::words::NEWLINE;
 use crate::words::SPACE;
 use crate::words::put_number;
@@ -13,7 +13,7 @@ use planner::Exchange;
 
 // A line of six numbers.
 fn put_six(out: &mut [u8], at: usize, a: u32, b: u32, c: u32, d: u32, e: u32, f: u32) -> usize
-    ensures { λ r. ⌜ Put (line (decimal a ∷ decimal b ∷ decimal c ∷ decimal d ∷ decimal e ∷ decimal f ∷ [])) at (now (out .entry)) (now (out .exit)) r ⌝ }
+    ensures { λ r. ⌜ Within 72 (line (decimal a ∷ decimal b ∷ decimal c ∷ decimal d ∷ decimal e ∷ decimal f ∷ [])) at (now (out .entry)) (now (out .exit)) r ⌝ }
 {
     let at_b = put_number(out, at, a, SPACE);
     let at_c = put_number(out, at_b, b, SPACE);
@@ -25,7 +25,7 @@ fn put_six(out: &mut [u8], at: usize, a: u32, b: u32, c: u32, d: u32, e: u32, f:
 
 // Entry, unit, address, start, window start, window end.
 pub fn put_entry(out: &mut [u8], at: usize, k: u32, e: Entry) -> usize
-    ensures { λ r. ⌜ Put (entryLine k e) at (now (out .entry)) (now (out .exit)) r ⌝ }
+    ensures { λ r. ⌜ Within 72 (entryLine k e) at (now (out .entry)) (now (out .exit)) r ⌝ }
 {
     let a = e.ask;
     let x = Exchange::of(a);
@@ -56,7 +56,7 @@ fn live(n: usize) -> usize
 
 // The first n entries, a line each.
 pub fn put_entries(out: &mut [u8], at: usize, entries: [Entry; 128], n: usize) -> usize
-    ensures { λ r. ⌜ Put (entryLines 0 (take n entries)) at (now (out .entry)) (now (out .exit)) r ⌝ }
+    ensures { λ r. ⌜ Within 9216 (entryLines 0 (take n entries)) at (now (out .entry)) (now (out .exit)) r ⌝ }
 {
     if out.len() <= at {
         return out.len();

@@ -1,12 +1,13 @@
-// The record stream: the lines that records print, as their very bytes.
+// The record stream: what each record does, and the lines that it prints, as their very bytes.
 mod answers;
 mod entries;
 mod report;
+mod run;
 mod words;
 
 pub use answers::put_answer;
 pub use answers::put_reply_answer;
 pub use entries::put_entries;
 pub use entries::put_entry;
-pub use report::Value;
 pub use report::put_report;
+pub use run::Run;

@@ -1,6 +1,6 @@
 // A word of a line and the byte behind it: a space, or the newline that ends the line.
-ghost use Rattle.text.specs.Put.{Put, decimal};
-ghost use Rattle.stream.specs.Lines.{followed};
+ghost use Rattle.text.specs.Put.{decimal};
+ghost use Rattle.stream.specs.Lines.{Within, followed};
 
 pub(crate) const SPACE: u8 = 32;
 
@@ -8,7 +8,7 @@ pub(crate) const NEWLINE: u8 = 10;
 
 // A number, and the byte behind it.
 pub(crate) fn put_number(out: &mut [u8], at: usize, n: u32, behind: u8) -> usize
-    ensures { λ r. ⌜ Put (followed (decimal n) behind) at (now (out .entry)) (now (out .exit)) r ⌝ }
+    ensures { λ r. ⌜ Within 12 (followed (decimal n) behind) at (now (out .entry)) (now (out .exit)) r ⌝ }
 {
     let end = text::put_decimal(out, at, n);
     text::put_byte(out, end, behind)

@@ -1,6 +1,6 @@
 -- `put_answer` lays three numbers.
-use Rattle.text.proofs.Laid.{put-then}
 use Rattle.stream.specs.Lines.{line, answerLine}
+use Rattle.stream.proofs.Lengths.{within-then}
 use borrow.Author.Needs.{needs}
 use Rattle.stream.proofs.answers.put_answer.Statement.{statement}
 use Rattle.stream.proofs.answers.put_answer.Tie as tie
@@ -19,7 +19,7 @@ same-length c = search needs
 
 returns : tie.Need-returns
 unfolding line answerLine
-returns c = put-then (c .before .before .before .before .before .before .before .before .before .before .put-number .ensures) (put-then (c .before .before .before .before .before .before .put-number2 .ensures) (c .before .before .put-number3 .ensures))
+returns c = within-then (c .before .before .before .before .before .before .before .before .before .before .put-number .ensures) (within-then (c .before .before .before .before .before .before .put-number2 .ensures) (c .before .before .put-number3 .ensures))
 
 pub put-answer-spec : {M : Type 1} → statement M
 put-answer-spec =

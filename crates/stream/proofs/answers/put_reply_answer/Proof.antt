@@ -1,8 +1,9 @@
 -- `put_reply_answer` lays four numbers and the delay with its sign.
+use native.Mathlib.Omega.{arith}
 use mir.Syntax.{w32}
 use mir.ValLaws.{toZ-ofZ}
-use Rattle.text.proofs.Laid.{put-then}
 use Rattle.stream.specs.Lines.{line, replyLine}
+use Rattle.stream.proofs.Lengths.{within, within-then, signed-short}
 use borrow.Author.Needs.{needs}
 use Rattle.stream.proofs.answers.put_reply_answer.Statement.{statement}
 use Rattle.stream.proofs.answers.put_reply_answer.Tie as tie
@@ -30,7 +31,14 @@ same-length c = search needs
 
 returns : tie.Need-returns
 unfolding line replyLine
-returns c = put-then (c .before .before .before .before .before .before .before .before .before .before .before .before .before .before .before .before .before .before .before .before .before .before .put-number .ensures) (put-then (c .before .before .before .before .before .before .before .before .before .before .before .before .before .before .before .before .before .before .put-number2 .ensures) (put-then (c .before .before .before .before .before .before .before .before .before .before .before .before .before .before .put-number3 .ensures) (put-then (c .before .before .before .before .before .before .before .before .before .before .put-number4 .ensures) (put-then (rw (toZ-ofZ w32 _ (c .before .before .before .before .before .before .before .before .before .before .before .before .before .before .before .before .before .before .before .before .before .before .before .before .before .fits .delay)) at (c .before .before .before .before .before .before .put-signed .ensures)) (c .before .before .put-byte .ensures)))))
+returns c =
+    let fits = c .before .before .before .before .before .before .before .before .before .before .before .before .before .before .before .before .before .before .before .before .before .before .before .before .before .fits .delay in
+    let e = c .before .before .before .before .before .before .put-signed .ensures in
+    within-then (c .before .before .before .before .before .before .before .before .before .before .before .before .before .before .before .before .before .before .before .before .before .before .put-number .ensures)
+    (within-then (c .before .before .before .before .before .before .before .before .before .before .before .before .before .before .before .before .before .before .put-number2 .ensures)
+    (within-then (c .before .before .before .before .before .before .before .before .before .before .before .before .before .before .put-number3 .ensures)
+    (within-then (c .before .before .before .before .before .before .before .before .before .before .put-number4 .ensures)
+    (within-then (within 11 (signed-short _ fits) (rw (toZ-ofZ w32 _ fits) at e)) (within 1 (omega arith) (c .before .before .put-byte .ensures))))))
 
 pub put-reply-answer-spec : {M : Type 1} → statement M
 put-reply-answer-spec =

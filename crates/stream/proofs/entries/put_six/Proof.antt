@@ -1,6 +1,6 @@
 -- `put_six` lays six numbers.
-use Rattle.text.proofs.Laid.{put-then}
 use Rattle.stream.specs.Lines.{line}
+use Rattle.stream.proofs.Lengths.{within-then}
 use borrow.Author.Needs.{needs}
 use Rattle.stream.proofs.entries.put_six.Statement.{statement}
 use Rattle.stream.proofs.entries.put_six.Tie as tie
@@ -28,7 +28,7 @@ same-length c = search needs
 
 returns : tie.Need-returns
 unfolding line
-returns c = put-then (c .before .before .before .before .before .before .before .before .before .before .before .before .before .before .before .before .before .before .before .before .before .before .put-number .ensures) (put-then (c .before .before .before .before .before .before .before .before .before .before .before .before .before .before .before .before .before .before .put-number2 .ensures) (put-then (c .before .before .before .before .before .before .before .before .before .before .before .before .before .before .put-number3 .ensures) (put-then (c .before .before .before .before .before .before .before .before .before .before .put-number4 .ensures) (put-then (c .before .before .before .before .before .before .put-number5 .ensures) (c .before .before .put-number6 .ensures)))))
+returns c = within-then (c .before .before .before .before .before .before .before .before .before .before .before .before .before .before .before .before .before .before .before .before .before .before .put-number .ensures) (within-then (c .before .before .before .before .before .before .before .before .before .before .before .before .before .before .before .before .before .before .put-number2 .ensures) (within-then (c .before .before .before .before .before .before .before .before .before .before .before .before .before .before .put-number3 .ensures) (within-then (c .before .before .before .before .before .before .before .before .before .before .put-number4 .ensures) (within-then (c .before .before .before .before .before .before .put-number5 .ensures) (c .before .before .put-number6 .ensures)))))
 
 pub put-six-spec : {M : Type 1} → statement M
 put-six-spec =

@@ -1,0 +1,131 @@
+-- A run ends, takes each byte at most once, and writes the transcript.
+use Prim.Native.Nat.{ℕ, zero, suc, _+_, _-_, _%_, _^_, _≤_, _<_}
+use native.Mathlib.Nat.{mod-eq-of-lt}
+use native.Mathlib.Omega.{arith}
+use mathlib.Core.Path.{_≡_, refl, ap, _∙_}
+use mathlib.Core.Bool.{Bool, true, false}
+use mathlib.Core.List.{List, [], _++_}
+use lib.ListN.{length, take, length-take}
+use borrow.Author.Tests.{le-leb}
+use Rattle.lists.specs.Lists.{pick}
+use Rattle.text.proofs.Laid.{take-laid}
+use Rattle.records.specs.declared.reading.Found.{Found}
+use Rattle.records.specs.declared.reading.Found.the-variants.{End, Unknown, Cut, Whole}
+use Rattle.records.specs.Records.{bodyLength, recordAt}
+use Rattle.records.proofs.Steps.{whole-fits}
+use Rattle.histories.specs.declared.state.Station.{Station}
+use Rattle.stream.specs.declared.run.Run.{Run}
+use Rattle.stream.specs.Step.{Outcome}
+use Rattle.stream.specs.Run.{outcome, goesOn, placeAfter, textFrom, transcript, begun, outcomeNow, advanced, written, Advanced}
+
+-- ---- a step takes each byte at most once
+
+-- where the run goes on after a place: past the byte of kind and the body that stand there, and not beyond the end of the stream
+pub record Taken (s : List ℕ) (at : ℕ) (f : Found) : Type 0 where
+  pub forward : at < placeAfter f at
+  pub inside : placeAfter f at ≤ length s
+
+taken-by : (s : List ℕ) (at : ℕ) (f : Found) → recordAt s at ≡ f → goesOn f ≡ true → Taken s at f
+unfolding goesOn placeAfter
+taken-by s at End h e = let z : _≡_ {A = ℕ} 0 1 = cc in absurd (omega arith)
+taken-by s at (Unknown b) h e = let z : _≡_ {A = ℕ} 0 1 = cc in absurd (omega arith)
+taken-by s at (Cut kind) h e = let z : _≡_ {A = ℕ} 0 1 = cc in absurd (omega arith)
+taken-by s at (Whole kind body next) h e = let w = whole-fits s at h in record { forward = omega (arith, w .body, w .next); inside = w .inside }
+
+stays-by : (f : Found) (at : ℕ) → goesOn f ≡ false → placeAfter f at ≡ at
+unfolding goesOn placeAfter
+stays-by End at e = refl
+stays-by (Unknown b) at e = refl
+stays-by (Cut kind) at e = refl
+stays-by (Whole kind body next) at e = let z : _≡_ {A = ℕ} 0 1 = cc in absurd (omega arith)
+
+-- a step that goes on moves forward by the record's own bytes; one that does not takes nothing more
+pub takes-once : (s : List ℕ) (r : Run) → advanced s r .more ≡ true → (r .at < advanced s r .at) × (advanced s r .at ≤ length s)
+unfolding advanced
+takes-once s r e = let t = taken-by s (r .at) (recordAt s (r .at)) refl e in (t .forward, t .inside)
+
+pub ends-there : (s : List ℕ) (r : Run) → advanced s r .more ≡ false → advanced s r .at ≡ r .at
+unfolding advanced
+ends-there s r e = stays-by (recordAt s (r .at)) (r .at) e
+
+-- ---- a run ends: the bytes left fall with each step, and the step that finds no whole record is the last
+
+-- the bytes from the run's place on, and one more while it goes on
+abbrev pub left : List ℕ → Run → ℕ
+left s r = (length s - r .at) + pick (r .more) 1 0
+
+by-test : (s : List ℕ) (at : ℕ) (f : Found) (b : Bool) → recordAt s at ≡ f → goesOn f ≡ b → (length s - placeAfter f at) + pick b 1 0 < (length s - at) + 1
+by-test s at f true h e = let t = taken-by s at f h e in omega (arith, t .forward, t .inside)
+by-test s at f false h e = omega (arith, stays-by f at e)
+
+pub falls : (s : List ℕ) (r : Run) → r .more ≡ true → left s (advanced s r) < left s r
+unfolding advanced
+falls s r m = rw m (by-test s (r .at) (recordAt s (r .at)) (goesOn (recordAt s (r .at))) refl refl)
+
+-- the same of a step of the code
+pub falls-after : {s l m : List ℕ} {r q : Run} → Advanced s r l m q → r .more ≡ true → left s q < left s r
+falls-after {s} {l} {m} {r} a e = rw (a .answer) (falls s r e)
+
+-- ---- more steps than bytes print nothing more
+
+past-end : (s : List ℕ) (at : ℕ) → length s ≤ at → recordAt s at ≡ End
+unfolding recordAt
+past-end s at h = rw (le-leb (length s) at h)
+
+-- the text of what stands at a place and of what follows
+abbrev onward : ℕ → List ℕ → ℕ → ℕ → Station → Found → Bool → List ℕ
+onward k s at n st f b = outcome s n st f .lines ++ pick b (textFrom k s (placeAfter f at) (n + 1) (outcome s n st f .station)) []
+
+same-onward : (j k : ℕ) (s : List ℕ) (at n : ℕ) (st : Station)
+    → ((to m : ℕ) (after : Station) → length s < to + j → length s < to + k → textFrom j s to m after ≡ textFrom k s to m after)
+    → (f : Found) (b : Bool) → recordAt s at ≡ f → goesOn f ≡ b → length s < at + suc j → length s < at + suc k → onward j s at n st f b ≡ onward k s at n st f b
+same-onward j k s at n st later f false h e x y = refl
+same-onward j k s at n st later f true h e x y =
+    let t = taken-by s at f h e in
+    rw (later (placeAfter f at) (n + 1) (outcome s n st f .station) (omega (arith, t .forward)) (omega (arith, t .forward)))
+
+pub enough : (j k : ℕ) (s : List ℕ) (at n : ℕ) (st : Station) → length s < at + j → length s < at + k → textFrom j s at n st ≡ textFrom k s at n st
+unfolding textFrom goesOn outcome
+enough zero zero s at n st a b = refl
+enough zero (suc k) s at n st a b = rw (past-end s at (omega arith))
+enough (suc j) zero s at n st a b = rw (past-end s at (omega arith))
+enough (suc j) (suc k) s at n st a b = same-onward j k s at n st (enough j k s) (recordAt s at) (goesOn (recordAt s at)) refl refl a b
+
+-- ---- the steps write the transcript
+
+-- the record's number is at most one more than the run's place, which is within the stream
+pub record Sound (s : List ℕ) (r : Run) : Type 0 where
+  pub counted : r .n ≤ r .at + 1
+  pub inside : r .at ≤ length s
+
+follow : (k : ℕ) (s : List ℕ) (r : Run) (b : Bool) → goesOn (recordAt s (r .at)) ≡ b → length s ≤ 65536 → Sound s r
+    → ((q : Run) → Sound s q → written k s q ≡ textFrom k s (q .at) (q .n) (q .station))
+    → pick b (written k s (advanced s r)) [] ≡ pick b (textFrom k s (placeAfter (recordAt s (r .at)) (r .at)) (r .n + 1) (outcomeNow s r .station)) []
+unfolding advanced
+follow k s r false e small ok later = refl
+follow k s r true e small ok later =
+    let plain : (r .n + 1) % 2 ^ 32 ≡ r .n + 1 = mod-eq-of-lt (omega (arith, ok .counted, ok .inside)) in
+    let t = taken-by s (r .at) (recordAt s (r .at)) refl e in
+    later (advanced s r) (record { counted = rw plain (omega (arith, t .forward, ok .counted)); inside = t .inside }) ∙ rw plain
+
+-- what k steps write is the text of k records
+pub steps-write : (k : ℕ) (s : List ℕ) (r : Run) → length s ≤ 65536 → Sound s r → written k s r ≡ textFrom k s (r .at) (r .n) (r .station)
+unfolding written textFrom outcomeNow advanced
+steps-write zero s r small ok = refl
+steps-write (suc k) s r small ok =
+    ap (λ (t : List ℕ). outcomeNow s r .lines ++ t)
+    (follow k s r (goesOn (recordAt s (r .at))) refl small ok (λ q y. steps-write k s q small y))
+
+-- the steps, one after the other, write exactly the transcript
+pub the-transcript : (input : List ℕ) → written 65537 (take 65536 input) begun ≡ transcript input
+unfolding transcript begun
+the-transcript input = steps-write 65537 (take 65536 input) begun (simp length-take (omega arith)) (record { counted = omega arith; inside = omega arith })
+
+-- ---- what the program writes after a step: the first bytes of the buffer are the record's lines
+pub shown : {s l m : List ℕ} {r q : Run} → Advanced s r l m q → take (q .size) m ≡ outcomeNow s r .lines
+unfolding advanced
+shown {s} {l} {m} {r} {q} a =
+    let t = outcomeNow s r .lines in
+    let z : q .size ≡ length t = ap (λ (x : Run). x .size) (a .answer) in
+    let e : take (length t) m ≡ t = ap (take (length t)) (a .text) ∙ take-laid t l (omega (arith, a .room, z)) in
+    rw z e

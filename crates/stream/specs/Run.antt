@@ -1,0 +1,88 @@
+-- One record after the other: the text of a whole stream, and the run as the code carries it.
+use Prim.Native.Nat.{ℕ, zero, suc, _+_, _%_, _^_, _≤_}
+use mathlib.Core.Bool.{Bool, true, false}
+use mathlib.Core.List.{List, [], _++_}
+use mathlib.Core.Path.{_≡_}
+use lib.ListN.{length, take}
+use Rattle.lists.specs.Lists.{pick}
+use Rattle.text.specs.Put.{laid}
+use Rattle.records.specs.declared.reading.Found.{Found}
+use Rattle.records.specs.declared.reading.Found.the-variants.{End, Unknown, Cut, Whole}
+use Rattle.records.specs.Records.{recordAt}
+use Rattle.histories.specs.declared.state.Station.{Station}
+use Rattle.histories.specs.State.{blank}
+use Rattle.stream.specs.declared.run.Run.{Run}
+use Rattle.stream.specs.Lines.{answerLine}
+use Rattle.stream.specs.Step.{Outcome, obeyed}
+
+-- ---- what stands at a place of the stream
+-- a refusal that is judged before the body: the station stays as it is
+abbrev pub ended : ℕ → ℕ → ℕ → Station → Outcome
+ended n kind number st = record { lines = answerLine n kind number; station = st }
+
+-- as record n: nothing; "unknown record kind"; "record cut by the end of the stream"; what a whole record does
+unfoldable pub outcome : List ℕ → ℕ → Station → Found → Outcome
+outcome s n st End = record { lines = []; station = st }
+outcome s n st (Unknown b) = ended n b 16 st
+outcome s n st (Cut kind) = ended n kind 17 st
+outcome s n st (Whole kind body next) = obeyed s n kind body st
+
+-- "kinds 16 and 17 of refusal end the run", as the end of the stream does
+unfoldable pub goesOn : Found → Bool
+goesOn End = false
+goesOn (Unknown b) = false
+goesOn (Cut kind) = false
+goesOn (Whole kind body next) = true
+
+-- the place of the next record
+unfoldable pub placeAfter : Found → ℕ → ℕ
+placeAfter End at = at
+placeAfter (Unknown b) at = at
+placeAfter (Cut kind) at = at
+placeAfter (Whole kind body next) at = next
+
+-- ---- the text of a stream
+-- the text of the records from a place on, the first of them being record n: at most k records
+unfoldable pub textFrom : ℕ → List ℕ → ℕ → ℕ → Station → List ℕ
+textFrom zero s at n st = []
+textFrom (suc k) s at n st =
+    let f = recordAt s at in
+    let o = outcome s n st f in
+    o .lines ++ pick (goesOn f) (textFrom k s (placeAfter f at) (n + 1) (o .station)) []
+
+-- "the first 64 KiB of standard input as the whole stream": every record has a byte of its own, so 65,537 are more than there are
+unfoldable pub transcript : List ℕ → List ℕ
+transcript input = textFrom 65537 (take 65536 input) 0 1 blank
+
+-- ---- the run as the code carries it
+-- before the first record
+unfoldable pub begun : Run
+begun = record { station = blank; at = 0; n = 1; more = true; size = 0 }
+
+-- what the next record does
+unfoldable pub outcomeNow : List ℕ → Run → Outcome
+outcomeNow s r = outcome s (r .n) (r .station) (recordAt s (r .at))
+
+-- after the next record; size is how many bytes its lines have. Records are counted on 32 bits, which no stream of 65,536 bytes fills
+unfoldable pub advanced : List ℕ → Run → Run
+advanced s r =
+    record {
+      station = outcomeNow s r .station;
+      at = placeAfter (recordAt s (r .at)) (r .at);
+      n = (r .n + 1) % 2 ^ 32;
+      more = goesOn (recordAt s (r .at));
+      size = length (outcomeNow s r .lines);
+    }
+
+-- what k steps write, one after the other
+unfoldable pub written : ℕ → List ℕ → Run → List ℕ
+written zero s r = []
+written (suc k) s r =
+    let q = advanced s r in
+    outcomeNow s r .lines ++ pick (q .more) (written k s q) []
+
+-- a step answered as defined, and the very bytes of the record's lines stand at the front of the buffer, which has room for them
+pub record Advanced (s : List ℕ) (r : Run) (before after : List ℕ) (q : Run) : Type 0 where
+  pub answer : q ≡ advanced s r
+  pub text : after ≡ laid (outcomeNow s r .lines) 0 before
+  pub room : q .size ≤ length before
