@@ -27,6 +27,10 @@ within k h p = record { put = p; short = omega (arith, p .next) }
 pub within-then : {a b : List ℕ} {at r q j k : ℕ} {l m o : List ℕ} → Within j a at l m r → Within k b r m o q → Within (j + k) (a ++ b) at l o q
 within-then {j = j} {k = k} x y = record { put = put-then (x .put) (y .put); short = omega (arith, x .short, y .short) }
 
+-- a looser bound
+pub within-more : {t : List ℕ} {at r : ℕ} {l m : List ℕ} (j k : ℕ) → j ≤ k → Within j t at l m r → Within k t at l m r
+within-more j k h x = record { put = x .put; short = omega (arith, x .short) }
+
 -- a text by another name
 pub within-of : {k : ℕ} {a b : List ℕ} {at r : ℕ} {l m : List ℕ} → a ≡ b → Within k a at l m r → Within k b at l m r
 within-of e p = rw e at p

@@ -8,14 +8,13 @@ use mathlib.Core.List.{List, [], _++_}
 use lib.ListN.{length, take, length-take}
 use borrow.Author.Tests.{le-leb}
 use Rattle.lists.specs.Lists.{pick}
-use Rattle.text.proofs.Laid.{take-laid}
+use Rattle.text.proofs.Laid.{length-laid, take-laid}
 use Rattle.records.specs.declared.reading.Found.{Found}
 use Rattle.records.specs.declared.reading.Found.the-variants.{End, Unknown, Cut, Whole}
-use Rattle.records.specs.Records.{bodyLength, recordAt}
+use Rattle.records.specs.Records.{recordAt}
 use Rattle.records.proofs.Steps.{whole-fits}
 use Rattle.histories.specs.declared.state.Station.{Station}
 use Rattle.stream.specs.declared.run.Run.{Run}
-use Rattle.stream.specs.Step.{Outcome}
 use Rattle.stream.specs.Run.{outcome, goesOn, placeAfter, textFrom, transcript, begun, outcomeNow, advanced, written, Advanced}
 
 -- ---- a step takes each byte at most once
@@ -129,3 +128,9 @@ shown {s} {l} {m} {r} {q} a =
     let z : q .size ≡ length t = ap (λ (x : Run). x .size) (a .answer) in
     let e : take (length t) m ≡ t = ap (take (length t)) (a .text) ∙ take-laid t l (omega (arith, a .room, z)) in
     rw z e
+
+-- and they are all in the buffer, as lending its front asks
+pub shown-count : {s l m : List ℕ} {r q : Run} → Advanced s r l m q → (q .size ≤ length m) × (q .size ≡ length (take (q .size) m))
+shown-count {s} {l} {m} {r} {q} a =
+    let k : length m ≡ length l = ap length (a .text) ∙ length-laid (outcomeNow s r .lines) 0 l in
+    (omega (arith, a .room, k), simp length-take (omega (arith, a .room, k)))

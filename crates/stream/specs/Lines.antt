@@ -9,7 +9,7 @@ use Rattle.planner.specs.Exchange.{listens}
 use Rattle.histories.specs.declared.state.Value.{Value}
 use Rattle.histories.specs.declared.state.Value.the-variants.{Never, Heard}
 
--- a call laid a text of at most k bytes into a buffer at a place, and answered the place after it
+-- a call laid a text into a buffer at a place, and answered the place after it, which is at most k further
 pub record Within (k : ℕ) (t : List ℕ) (at : ℕ) (before after : List ℕ) (r : ℕ) : Type 0 where
   pub put : Put t at before after r
   pub short : r ≤ at + k

@@ -11,8 +11,9 @@ use Rattle.records.specs.declared.reading.Found.the-variants.{End, Unknown, Cut
 use Rattle.records.specs.Records.{recordAt}
 use Rattle.histories.specs.declared.state.Station.{Station}
 use Rattle.histories.specs.State.{blank}
+use Rattle.stream.specs.declared.step.Step.{Step}
 use Rattle.stream.specs.declared.run.Run.{Run}
-use Rattle.stream.specs.Lines.{answerLine}
+use Rattle.stream.specs.Lines.{Within, answerLine}
 use Rattle.stream.specs.Step.{Outcome, obeyed}
 
 -- ---- what stands at a place of the stream
@@ -40,6 +41,13 @@ placeAfter End at = at
 placeAfter (Unknown b) at = at
 placeAfter (Cut kind) at = at
 placeAfter (Whole kind body next) at = next
+
+-- a step did what the definition says of what stands at the place
+pub record Stepped (s : List ℕ) (at n : ℕ) (st : Station) (before after : List ℕ) (r : Step) : Type 0 where
+  pub station : r .station ≡ outcome s n st (recordAt s at) .station
+  pub more : r .more ≡ goesOn (recordAt s at)
+  pub next : r .next ≡ placeAfter (recordAt s at) at
+  pub lines : Within 9252 (outcome s n st (recordAt s at) .lines) 0 before after (r .size)
 
 -- ---- the text of a stream
 -- the text of the records from a place on, the first of them being record n: at most k records

@@ -1,8 +1,11 @@
 // The record stream: what each record does, and the lines that it prints, as their very bytes.
 mod answers;
 mod entries;
+mod obey;
+mod replies;
 mod report;
 mod run;
+mod step;
 mod words;
 
 pub use answers::put_answer;
@@ -11,3 +14,6 @@ pub use entries::put_entries;
 pub use entries::put_entry;
 pub use report::put_report;
 pub use run::Run;
+pub use run::advance;
+pub use run::begin;
+pub use run::room;

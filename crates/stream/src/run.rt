@@ -1,4 +1,8 @@
 // The run of a stream, one record after the other.
+ghost use mathlib.Core.Path.{_≡_};
+ghost use lib.ListN.{length};
+ghost use Rattle.stream.specs.Run.{begun, Advanced};
+use crate::step::put_step;
 use histories::Station;
 
 // The station, the place and the number of the next record, whether the run goes on, and how many bytes the last record's lines have.
@@ -8,4 +12,43 @@ pub struct Run {
     pub n: u32,
     pub more: bool,
     pub size: usize,
+}
+
+// Before the first record.
+pub fn begin() -> Run
+    ensures { λ r. ⌜ r ≡ begun ⌝ }
+{
+    let station = station::blank();
+    Run {
+        station: station,
+        at: 0,
+        n: 1,
+        more: true,
+        size: 0,
+    }
+}
+
+// Room for the lines of any record.
+pub fn room() -> [u8; 9300]
+    ensures { λ r. ⌜ 9300 ≡ length r ⌝ }
+{
+    [0; 9300]
+}
+
+// One record more: its lines stand at the front of out.
+pub fn advance(s: &[u8], run: Run, out: &mut [u8; 9300]) -> Run
+    ensures { λ r. ⌜ Advanced (now (s .entry)) run (now (out .entry)) (now (out .exit)) r ⌝ }
+{
+    let at = run.at;
+    let n = run.n;
+    let before = run.station;
+    let step = put_step(s, at, n, before, out);
+    let after = step.station;
+    Run {
+        station: after,
+        at: step.next,
+        n: std::num::wrapping_add_u32(n, 1),
+        more: step.more,
+        size: step.size,
+    }
 }

@@ -1,0 +1,51 @@
+-- `obey_report` reports on the address of the body, and lays the answer and, when taken, what was heard.
+use native.Mathlib.Omega.{arith}
+use mathlib.Core.Path.{refl, ap, _∙_}
+use Rattle.histories.specs.Calls.{reported}
+use Rattle.stream.specs.Step.{reportedTo}
+use Rattle.stream.proofs.Lengths.{within-then}
+use Rattle.stream.proofs.Steps.{did-of, did-lines, report-refused, report-taken}
+use borrow.Author.Needs.{needs}
+use Rattle.stream.proofs.obey.obey_report.Statement.{statement}
+use Rattle.stream.proofs.obey.obey_report.Tie as tie
+
+address-at-requires : tie.Need-address-at-requires
+address-at-requires c κs = search needs
+
+report-on-requires : tie.Need-report-on-requires
+report-on-requires c κs = search needs
+
+put-answer-requires : tie.Need-put-answer-requires
+put-answer-requires c κs = search needs
+
+same-length : tie.Need-same-length
+same-length c = search needs
+
+returns : tie.Need-returns
+returns c =
+    did-of (ap (reportedTo _ _) (c .before .before .before .before .before .before .report-on .ensures ∙ ap (reported _) (c .before .before .before .before .before .before .before .address-at .ensures)))
+    (did-lines 36 (omega arith) refl (report-refused _ (c .before .before .before .before .before .before .before .before .before .before .args .st) _ (c .if1 .taken)) (c .before .before .before .before .put-answer .ensures))
+
+put-report-requires : tie.Need-put-report-requires
+put-report-requires c κs = search needs
+
+same-length-2 : tie.Need-same-length-2
+same-length-2 c = search needs
+
+returns-2 : tie.Need-returns-2
+returns-2 c =
+    did-of (ap (reportedTo _ _) (c .before .before .before .before .before .before .before .before .before .before .report-on .ensures ∙ ap (reported _) (c .before .before .before .before .before .before .before .before .before .before .before .address-at .ensures)))
+    (did-lines 84 (omega arith) refl (report-taken _ (c .before .before .before .before .before .before .before .before .before .before .before .before .before .before .args .st) _ (c .before .before .before .before .if1 .left)) (within-then (c .before .before .before .before .before .before .before .before .put-answer .ensures) (c .before .before .put-report .ensures)))
+
+pub obey-report-spec : {M : Type 1} → statement M
+obey-report-spec =
+    tie.close
+    (tie.spec
+    address-at-requires
+    report-on-requires
+    put-answer-requires
+    same-length
+    returns
+    put-report-requires
+    same-length-2
+    returns-2)
