@@ -8,6 +8,7 @@ use lib.Dec.{eqb, leb}
 use lib.ListN.{length, getD, replicate}
 use borrow.Author.Tests.{eqb-true, eqb-false, leb-true, leb-false, le-leb}
 use Rattle.lists.specs.Lists.{pick}
+use Rattle.lists.proofs.Tests.{and-yes, and-no-left, and-no-right}
 use Rattle.parity.specs.Messages.{whole, AreBytes}
 use Rattle.frames.specs.Building.{replying}
 use Rattle.frames.specs.Bytes.{numberOf}
@@ -25,18 +26,23 @@ use Rattle.transponder.specs.Replies.{sending, drOf, umOf, mbOf, valueOf
 use Rattle.transponder.specs.Calls as calls
 use Rattle.transponder.specs.Calls.{queuing, steps, interrogated, unmoved, laidOver, heardSelective, heardAllCall, heard, refusing, taking}
 use Rattle.transponder.specs.History.{Call, queue, take, Answer, refused, done, answer}
+use Rattle.transponder.specs.Seen.{isFor}
 
 -- what holds of both holds of either
 pub of-pick : {A : Type 0} (P : A → Type 0) (b : Bool) (x y : A) → P x → P y → P (pick b x y)
 of-pick P true x y p q = p
 of-pick P false x y p q = q
 
+-- the steps of a selective interrogation, by its fields PC, DI and SD
+abbrev pub stepsOf : List ℕ → Transponder → Transponder
+stepsOf vs t = steps (getD vs 1 0) (getD vs 3 0) (getD vs 4 0) t
+
 -- ---- what a call can come to: it is refused and nothing changes; a message is queued; a frame only moves time, or time lapses and then come the steps
 pub data Came (t : Transponder) : Call → Answer → Type 0 where
   refusal : {c : Call} {r : Answer} (n : ℕ) → (n ≡ 0 → ⊥) → r ≡ refused n t → Came t c r
   did-queue : {r : Answer} (m : List ℕ) (b : AreBytes m) → length m ≡ 7 → length (waiting (t .messages)) < 8 → r ≡ done (withMessages (messagesWith (numberOf m) (t .messages)) t) → Came t (queue m b) r
-  did-lapse : {r : Answer} (time draw : ℕ) (f : List ℕ) → t .time ≤ time → r ≡ done (lapse time t) → Came t (take time draw f) r
-  did-steps : {r : Answer} (time draw : ℕ) (f : List ℕ) (pc di sd : ℕ) → t .time ≤ time → r ≡ done (steps pc di sd (lapse time t)) → Came t (take time draw f) r
+  did-lapse : {r : Answer} (time draw : ℕ) (f : List ℕ) → isFor (t .address) (readUp f .values) ≡ false → t .time ≤ time → r ≡ done (lapse time t) → Came t (take time draw f) r
+  did-steps : {r : Answer} (time draw : ℕ) (f : List ℕ) → isFor (t .address) (readUp f .values) ≡ true → t .time ≤ time → r ≡ done (stepsOf (readUp f .values) (lapse time t)) → Came t (take time draw f) r
 
 -- what a frame's answer and a queuing's say of the transponder
 abbrev taken : Took → Answer
@@ -55,28 +61,31 @@ module _ (t : Transponder) (c : Call) where
   test true n y z g = g refl
   test false n y z g = refusal n z refl
 
--- ---- after the lapse: as it is, or through the steps
-pub data Heard (t : Transponder) (u : Transponder) : Type 0 where
-  still : u ≡ t → Heard t u
-  moved : (pc di sd : ℕ) → u ≡ steps pc di sd t → Heard t u
+-- ---- after the lapse: as it is, or through the steps when the frame is for this aircraft
+pub data Heard (t : Transponder) (vs : List ℕ) (u : Transponder) : Type 0 where
+  still : isFor (t .address) vs ≡ false → u ≡ t → Heard t vs u
+  moved : isFor (t .address) vs ≡ true → u ≡ stepsOf vs t → Heard t vs u
 
-selective : (uf pc rr di sd r : ℕ) (t : Transponder) → Heard t (heardSelective uf pc rr di sd r t .transponder)
-unfolding heardSelective interrogated
-selective uf pc rr di sd r t = of-pick (λ (w : Went). Heard t (w .transponder)) (laidOver (t .address) r) _ (unmoved t) (moved pc di sd refl) (still refl)
-
-all-call : (pr ic cl r draw : ℕ) (t : Transponder) → Heard t (heardAllCall pr ic cl r draw t .transponder)
+all-call : (pr ic cl r draw : ℕ) (t : Transponder) → heardAllCall pr ic cl r draw t .transponder ≡ t
 unfolding heardAllCall
-all-call pr ic cl r draw t = of-pick (λ (w : Went). Heard t (w .transponder)) (laidOver 0xFFFFFF r) _ (unmoved t) (still refl) (still refl)
+all-call pr ic cl r draw t = of-pick (λ (w : Went). w .transponder ≡ t) (laidOver 0xFFFFFF r) _ (unmoved t) refl refl
 
-pub what-is-heard : (draw : ℕ) (t : Transponder) (vs : List ℕ) → Heard t (heard draw t vs .transponder)
-what-is-heard draw t vs =
-    let P : Went → Type 0 = λ w. Heard t (w .transponder) in
-    of-pick P (eqb (length vs) 7) _ _ (selective (getD vs 0 0) (getD vs 1 0) (getD vs 2 0) (getD vs 3 0) (getD vs 4 0) (getD vs 6 0) t)
-    (of-pick P (eqb (length vs) 5) _ (unmoved t) (all-call (getD vs 1 0) (getD vs 2 0) (getD vs 3 0) (getD vs 4 0) draw t) (still refl))
+pub what-is-heard : (draw : ℕ) (t : Transponder) (vs : List ℕ) → Heard t vs (heard draw t vs .transponder)
+unfolding heardSelective interrogated
+what-is-heard draw t vs = go (eqb (length vs) 7) refl (laidOver (t .address) (getD vs 6 0)) refl
+  where
+    go : (x : Bool) → eqb (length vs) 7 ≡ x → (y : Bool) → laidOver (t .address) (getD vs 6 0) ≡ y
+        → Heard t vs (pick x (pick y (interrogated (getD vs 0 0) (getD vs 1 0) (getD vs 2 0) (getD vs 3 0) (getD vs 4 0) t) (unmoved t)) (pick (eqb (length vs) 5) (heardAllCall (getD vs 1 0) (getD vs 2 0) (getD vs 3 0) (getD vs 4 0) draw t) (unmoved t)) .transponder)
+    go true p true q = moved (and-yes (eqb (length vs) 7) (laidOver (t .address) (getD vs 6 0)) p q) refl
+    go true p false q = still (and-no-right (eqb (length vs) 7) (laidOver (t .address) (getD vs 6 0)) q) refl
+    go false p y q =
+        still (and-no-left (eqb (length vs) 7) (laidOver (t .address) (getD vs 6 0)) p)
+        (of-pick (λ (w : Went). w .transponder ≡ t) (eqb (length vs) 5) _ (unmoved t) (all-call (getD vs 1 0) (getD vs 2 0) (getD vs 3 0) (getD vs 4 0) draw t) refl)
 
-from : (t : Transponder) (time draw : ℕ) (f : List ℕ) (u : Transponder) → t .time ≤ time → Heard (lapse time t) u → Came t (take time draw f) (done u)
-from t time draw f u p (still e) = did-lapse time draw f p (ap done e)
-from t time draw f u p (moved pc di sd e) = did-steps time draw f pc di sd p (ap done e)
+from : (t : Transponder) (time draw : ℕ) (f : List ℕ) (u : Transponder) → t .time ≤ time → Heard (lapse time t) (readUp f .values) u → Came t (take time draw f) (done u)
+unfolding lapse
+from t time draw f u p (still i e) = did-lapse time draw f i p (ap done e)
+from t time draw f u p (moved i e) = did-steps time draw f i p (ap done e)
 
 -- ---- every call
 pub came : (t : Transponder) (c : Call) → Came t c (answer t c)
@@ -104,8 +113,8 @@ refusal-changes-nothing t c n = go c (answer t c) n (came t c)
     go : (c : Call) (r : Answer) → (r .number ≡ 0 → ⊥) → Came t c r → r .transponder ≡ t
     go c r n (refusal k z e) = ap (λ (x : Answer). x .transponder) e
     go c r n (did-queue m b l w e) = absurd (no-done _ e n)
-    go c r n (did-lapse time draw f p e) = absurd (no-done _ e n)
-    go c r n (did-steps time draw f pc di sd p e) = absurd (no-done _ e n)
+    go c r n (did-lapse time draw f i p e) = absurd (no-done _ e n)
+    go c r n (did-steps time draw f i p e) = absurd (no-done _ e n)
 
 -- and nothing is sent
 pub refusal-sends-nothing : (t : Transponder) (time draw : ℕ) (f : List ℕ) → (taking t time draw f .number ≡ 0 → ⊥) → taking t time draw f .length ≡ 0

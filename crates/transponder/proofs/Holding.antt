@@ -7,9 +7,10 @@ use mathlib.Core.Bool.{true, _&&_, not}
 use mathlib.Core.List.{List, [], _∷_, _++_}
 use mathlib.Core.Logic.{_⊎_, inl, inr}
 use lib.ListN as list
-use lib.ListN.{length, drop, length-append}
+use lib.ListN.{length, getD, drop, length-append}
 use borrow.Author.Tests.{ne-eqb}
 use Rattle.lists.proofs.Over.{take-over}
+use Rattle.frames.specs.Reading.{readUp}
 use Rattle.transponder.specs.declared.state.Holder.{Holder}
 use Rattle.transponder.specs.declared.state.Holder.the-variants.{Nobody, Held}
 use Rattle.transponder.specs.declared.state.Messages.{Messages}
@@ -21,7 +22,7 @@ use Rattle.transponder.specs.CommB.{asksToHold, nobodyElse, reserve, clo
 use Rattle.transponder.specs.Calls.{steps, taking}
 use Rattle.transponder.specs.History.{Answer, take}
 use Rattle.transponder.specs.Kept.{heldWaits, HeldWaits}
-use Rattle.transponder.proofs.Came.{of-pick, Came, refusal, did-lapse, did-steps, came}
+use Rattle.transponder.proofs.Came.{of-pick, stepsOf, Came, refusal, did-lapse, did-steps, came}
 
 -- ---- one message less
 front : (k : ℕ) (xs ys : List ℕ) → list.take (length (list.take k xs)) (xs ++ ys) ≡ list.take k xs
@@ -79,10 +80,11 @@ steps-one pc di sd t =
 
 removes : (t : Transponder) (time draw : ℕ) (f : List ℕ) (r : Answer) → Came t (take time draw f) r → AtMostOne (t .messages) (r .transponder .messages)
 removes t time draw f r (refusal n z e) = inl (ap (λ (x : Answer). waiting (x .transponder .messages)) e)
-removes t time draw f r (did-lapse _ _ _ p e) = inl (ap (λ (x : Answer). waiting (x .transponder .messages)) e ∙ ap waiting (lapse-same time t))
-removes t time draw f r (did-steps _ _ _ pc di sd p e) =
+removes t time draw f r (did-lapse _ _ _ i p e) = inl (ap (λ (x : Answer). waiting (x .transponder .messages)) e ∙ ap waiting (lapse-same time t))
+removes t time draw f r (did-steps _ _ _ i p e) =
+    let vs = readUp f .values in
     subst (λ (x : Answer). AtMostOne (t .messages) (x .transponder .messages)) (sym e)
-    (subst (λ (m : Messages). AtMostOne m (steps pc di sd (lapse time t) .messages)) (lapse-same time t) (steps-one pc di sd (lapse time t)))
+    (subst (λ (m : Messages). AtMostOne m (stepsOf vs (lapse time t) .messages)) (lapse-same time t) (steps-one (getD vs 1 0) (getD vs 3 0) (getD vs 4 0) (lapse time t)))
 
 pub a-frame-removes-at-most-one : (t : Transponder) (time draw : ℕ) (f : List ℕ) → AtMostOne (t .messages) (taking t time draw f .transponder .messages)
 a-frame-removes-at-most-one t time draw f = removes t time draw f _ (came t (take time draw f))

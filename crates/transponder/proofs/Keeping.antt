@@ -6,13 +6,14 @@ use mathlib.Core.Path.{_≡_, refl, sym, ap, _∙_, subst}
 use mathlib.Core.Bool.{Bool, true, false, _&&_}
 use mathlib.Core.List.{List, [], _∷_}
 use lib.Dec.{eqb, leb}
-use lib.ListN.{length, drop, length-append, length-drop, length-map, length-set}
+use lib.ListN.{length, getD, drop, length-append, length-drop, length-map, length-set}
 use borrow.Author.Tests.{leb-true}
 use Rattle.lists.specs.Lists.{pick, All}
 use Rattle.lists.proofs.Tests.{and-true}
 use Rattle.lists.proofs.Held.{all-snoc}
 use Rattle.parity.specs.Messages.{AreBytes}
 use Rattle.frames.specs.Bytes.{numberOf}
+use Rattle.frames.specs.Reading.{readUp}
 use Rattle.frames.proofs.Numbers.{number-lt}
 use Rattle.transponder.specs.declared.state.Holder.{Holder}
 use Rattle.transponder.specs.declared.state.Holder.the-variants.{Nobody, Held}
@@ -158,8 +159,10 @@ module _ (a : Aircraft) where
   kept-next : (t : Transponder) (c : Call) (r : Answer) → Came t c r → Kept a t → Kept a (r .transponder)
   kept-next t c r (refusal n z e) k = subst (λ (x : Answer). Kept a (x .transponder)) (sym e) k
   kept-next t c r (did-queue m b l w e) k = subst (λ (x : Answer). Kept a (x .transponder)) (sym e) (kept-queue t m b l w k)
-  kept-next t c r (did-lapse time draw f p e) k = subst (λ (x : Answer). Kept a (x .transponder)) (sym e) (kept-lapse time t k)
-  kept-next t c r (did-steps time draw f pc di sd p e) k = subst (λ (x : Answer). Kept a (x .transponder)) (sym e) (kept-steps pc di sd (lapse time t) (kept-lapse time t k))
+  kept-next t c r (did-lapse time draw f i p e) k = subst (λ (x : Answer). Kept a (x .transponder)) (sym e) (kept-lapse time t k)
+  kept-next t c r (did-steps time draw f i p e) k =
+      let vs = readUp f .values in
+      subst (λ (x : Answer). Kept a (x .transponder)) (sym e) (kept-steps (getD vs 1 0) (getD vs 3 0) (getD vs 4 0) (lapse time t) (kept-lapse time t k))
 
   -- ---- of every history
   pub always-kept : made a .number ≡ 0 → (cs : List Call) → Kept a (after a cs)
@@ -180,18 +183,19 @@ pub steps-time : (pc di sd : ℕ) (t : Transponder) → steps pc di sd t .time �
 unfolding steps lockout commanded
 steps-time pc di sd t = closeout-time pc di sd (reserve di sd (lockout pc di sd t)) ∙ reserve-time di sd (lockout pc di sd t)
 
-lapse-time : (now : ℕ) (t : Transponder) → lapse now t .time ≡ now
+pub lapse-time : (now : ℕ) (t : Transponder) → lapse now t .time ≡ now
 unfolding lapse
 lapse-time now t = refl
 
 forward : (t : Transponder) (c : Call) (r : Answer) → Came t c r → t .time ≤ r .transponder .time
 forward t c r (refusal n z e) = let q : r .transponder .time ≡ t .time = ap (λ (x : Answer). x .transponder .time) e in omega (arith, q)
 forward t c r (did-queue m b l w e) = let q : r .transponder .time ≡ t .time = ap (λ (x : Answer). x .transponder .time) e in omega (arith, q)
-forward t c r (did-lapse time draw f p e) =
+forward t c r (did-lapse time draw f i p e) =
     let q : r .transponder .time ≡ time = ap (λ (x : Answer). x .transponder .time) e ∙ lapse-time time t in
     omega (arith, q, p)
-forward t c r (did-steps time draw f pc di sd p e) =
-    let q : r .transponder .time ≡ time = ap (λ (x : Answer). x .transponder .time) e ∙ steps-time pc di sd (lapse time t) ∙ lapse-time time t in
+forward t c r (did-steps time draw f i p e) =
+    let vs = readUp f .values in
+    let q : r .transponder .time ≡ time = ap (λ (x : Answer). x .transponder .time) e ∙ steps-time (getD vs 1 0) (getD vs 3 0) (getD vs 4 0) (lapse time t) ∙ lapse-time time t in
     omega (arith, q, p)
 
 pub time-never-goes-back : (t : Transponder) (c : Call) → t .time ≤ answer t c .transponder .time

@@ -6,6 +6,7 @@ pub mod Came
 pub mod Holding
 pub mod Closing
 pub mod Keeping
+pub mod Locked
 pub mod Numbers
 pub mod Sending
 pub mod Demands

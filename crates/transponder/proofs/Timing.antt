@@ -20,7 +20,7 @@ use Rattle.transponder.specs.Lapse.{lasting, isOver, timerAfter, timersA
 use Rattle.transponder.specs.Lockout.{iis, los, sis, lss, commandOfPC, startedByLOS, startedByLSS, commandOfSD, commanded, lockout, locks, lockedTo}
 
 -- what stands at a code's place after a lapse is what stood there, lapsed
-at-place : (code : Interrogator) (now : ℕ) (t : Timers) → getD (timersAfter now t .list) (placeOf code) idle ≡ timerAfter now (getD (t .list) (placeOf code) idle)
+pub at-place : (code : Interrogator) (now : ℕ) (t : Timers) → getD (timersAfter now t .list) (placeOf code) idle ≡ timerAfter now (getD (t .list) (placeOf code) idle)
 unfolding timersAfter timerAfter
 at-place code now t = List·getD-map (timerAfter now) (t .list) (placeOf code) idle
 
@@ -76,9 +76,9 @@ pub si-one : (n m : ℕ) → placeOf (SI m) ≡ placeOf (SI n) → m ≡ n
 si-one n m e = omega arith
 
 -- ---- which command starts which timer
-timers-stay : (t : Timers) (place time p : ℕ) → p < length (t .list) → p < length (started place time t .list)
+pub started-length : (t : Timers) (place time : ℕ) → length (started place time t .list) ≡ length (t .list)
 unfolding started
-timers-stay t place time p h = simp length-set h
+started-length t place time = simp length-set
 
 -- the timer that a code starts locks, and a timer that locks still does when any is started
 start-locks : (c : Interrogator) (time : ℕ) (t : Timers) → placeOf c < length (t .list) → lockedTo c (started (placeOf c) time t) ≡ true
@@ -100,12 +100,12 @@ module _ (pc di sd : ℕ) (t : Transponder) (h : length (t .timers .list) ≡ 79
   unfolding lockout commanded
   pc-1-locks e =
       rw e
-      (still-locks (II 0) (commandOfSD di sd) (t .time) (started 0 (t .time) (t .timers)) (timers-stay (t .timers) 0 (t .time) 0 (omega (arith, h))) (start-locks (II 0) (t .time) (t .timers) (omega (arith, h))))
+      (still-locks (II 0) (commandOfSD di sd) (t .time) (started 0 (t .time) (t .timers)) (omega (arith, h, started-length (t .timers) 0 (t .time))) (start-locks (II 0) (t .time) (t .timers) (omega (arith, h))))
 
   -- the code that SD commands is locked
   sd-locks : (c : Interrogator) → commandOfSD di sd ≡ c → placeOf c < 79 → lockedTo c (lockout pc di sd t .timers) ≡ true
   unfolding lockout commanded
-  sd-locks c e p = rw e (start-locks c (t .time) (started (placeOf (commandOfPC pc)) (t .time) (t .timers)) (timers-stay (t .timers) (placeOf (commandOfPC pc)) (t .time) (placeOf c) (omega (arith, h, p))))
+  sd-locks c e p = rw e (start-locks c (t .time) (started (placeOf (commandOfPC pc)) (t .time) (t .timers)) (omega (arith, h, p, started-length (t .timers) (placeOf (commandOfPC pc)) (t .time))))
 
   -- "DI 1 or 7 with LOS (bit 26) starts the II in bits 17-20"
   pub los-locks : (di ≡ 1) ⊎ (di ≡ 7) → los sd ≡ 1 → lockedTo (II (iis sd)) (lockout pc di sd t .timers) ≡ true

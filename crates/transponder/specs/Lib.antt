@@ -7,6 +7,7 @@ pub mod Replies
 pub mod Calls
 pub mod History
 pub mod Numbers
+pub mod Seen
 pub mod Kept
 pub mod Demands
 pub mod Examples

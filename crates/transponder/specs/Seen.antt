@@ -1,0 +1,60 @@
+-- What a caller has seen of a history, and from that alone when a code was last commanded. Nothing here knows the transponder's timers.
+-- Assumes nothing: these are definitions.
+use Prim.Native.Nat.{ℕ, _-_, _≤_}
+use mathlib.Core.Bool.{Bool, false, _&&_, _||_}
+use mathlib.Core.List.{List, [], _∷_}
+use lib.Dec.{eqb, ltb}
+use lib.ListN.{length, getD}
+use Rattle.lists.specs.Lists.{pick}
+use Rattle.frames.specs.Reading.{readUp}
+use Rattle.frames.specs.declared.answers.Interrogator.{Interrogator}
+use Rattle.frames.specs.declared.answers.Interrogator.the-variants.{II, SI, Nobody}
+use Rattle.transponder.specs.declared.state.Lock.{Lock}
+use Rattle.transponder.specs.declared.state.Lock.the-variants.{Never, Since}
+use Rattle.transponder.specs.Lockout.{commandOfPC, commandOfSD}
+use Rattle.transponder.specs.Calls.{laidOver}
+use Rattle.transponder.specs.History.{Aircraft, Call, queue, take, answer, after}
+
+-- "II 0-15, SI 1-63"
+abbrev pub ACode : Interrogator → Type 0
+ACode (II n) = n ≤ 15
+ACode (SI n) = (1 ≤ n) × (n ≤ 63)
+ACode Nobody = ⊥
+
+-- whether two codes are the same
+abbrev pub isCode : Interrogator → Interrogator → Bool
+isCode (II n) (II m) = eqb n m
+isCode (II n) (SI m) = false
+isCode (II n) Nobody = false
+isCode (SI n) (II m) = false
+isCode (SI n) (SI m) = eqb n m
+isCode (SI n) Nobody = false
+isCode Nobody (II m) = false
+isCode Nobody (SI m) = false
+isCode Nobody Nobody = false
+
+-- whether the fields of a frame are those of a selective interrogation for an address: seven, the remainder last
+abbrev pub isFor : ℕ → List ℕ → Bool
+isFor address vs = eqb (length vs) 7 && laidOver address (getD vs 6 0)
+
+-- whether its PC, or its DI and SD, command a code
+abbrev pub commandsIn : Interrogator → List ℕ → Bool
+commandsIn c vs = isCode c (commandOfPC (getD vs 1 0)) || isCode c (commandOfSD (getD vs 3 0) (getD vs 4 0))
+
+-- whether a frame is for this aircraft and commands a code
+abbrev pub commands : Aircraft → Interrogator → List ℕ → Bool
+commands a c f = isFor (a .address) (readUp f .values) && commandsIn c (readUp f .values)
+
+-- the time of the last command of a code, after one call more with its number: a frame that is not refused may be one
+abbrev pub commandAfter : Aircraft → Interrogator → Call → ℕ → Lock → Lock
+commandAfter a c (queue m b) number old = old
+commandAfter a c (take time draw f) number old = pick (eqb number 0 && commands a c f) (Since time) old
+
+unfoldable pub lastCommand : Aircraft → Interrogator → List Call → Lock
+lastCommand a c [] = Never
+lastCommand a c (x ∷ cs) = commandAfter a c x (answer (after a cs) x .number) (lastCommand a c cs)
+
+-- "locks while less than 180 tenths have passed since its command"
+abbrev pub lockedSince : ℕ → Lock → Bool
+lockedSince now Never = false
+lockedSince now (Since s) = ltb (now - s) 180
