@@ -10,11 +10,14 @@ use lib.ListN.{length, getD, length-replicate}
 use borrow.Author.Tests.{eqb-true, eq-eqb, leb-true, le-leb}
 use Rattle.lists.specs.Lists.{pick, All}
 use Rattle.lists.proofs.Tests.{and-true, and-yes}
-use Rattle.parity.specs.Messages.{whole}
+use Rattle.parity.specs.Messages.{bits, whole}
+use Rattle.parity.specs.Division.{remainderOf}
 use Rattle.frames.specs.Building.{anAddress, replyRanged, allCallReplyRanged, anAllCallReply, replying, allCallReplying}
-use Rattle.frames.specs.Formats.{longFormat, surveillance, lengthOf}
-use Rattle.frames.specs.Reading.{readUp}
-use Rattle.frames.specs.Shared.{ofSI, siNumber, codeFor, drawn}
+use Rattle.frames.specs.Formats.{longFormat, surveillance, lengthOf, listed}
+use Rattle.frames.specs.Answers.{refusal}
+use Rattle.frames.specs.Fields.{valueAt, atRR, headOf, midOf}
+use Rattle.frames.specs.Reading.{formatOf, readAs, selectiveRead, allCallRead, readUp}
+use Rattle.frames.specs.Shared.{ofSI, siNumber, codeFor, shortReply, drawn}
 use Rattle.frames.specs.declared.answers.Draws.{Draws}
 use Rattle.frames.specs.declared.answers.Draws.the-variants.{Format, Nothing}
 use Rattle.frames.specs.declared.answers.Interrogator.the-variants.{II, SI, Nobody}
@@ -56,6 +59,35 @@ drawn-is uf rr df e = go (surveillance uf && leb rr 31) (leb 16 rr) refl (eqb uf
     go true false h true e = subst (Drawn rr) (ap number-of e) (record { listed = refl; long = λ q. absurd (false≢true (sym h ∙ ap (leb 16) q)) })
     go true false h false e = subst (Drawn rr) (ap number-of e) (record { listed = refl; long = λ q. absurd (false≢true (sym h ∙ ap (leb 16) q)) })
     go false l h ac e = absurd (false≢true (ap is-format e))
+
+-- a selective interrogation that is read has a listed UF and an RR of 5 bits, so it always draws a format
+read-in : (f : List ℕ) (uf pc rr di sd ma r : ℕ) → readUp f .values ≡ uf ∷ pc ∷ rr ∷ di ∷ sd ∷ ma ∷ r ∷ [] → (surveillance uf ≡ true) × (rr ≤ 31)
+unfolding readAs selectiveRead allCallRead
+read-in f uf pc rr di sd ma r = go (whole (length f)) (listed (formatOf f) (length f)) refl (eqb (formatOf f) 11) refl
+  where
+    go : (x y : Bool) → listed (formatOf f) (length f) ≡ y → (z : Bool) → eqb (formatOf f) 11 ≡ z
+        → pick x (pick y (pick z (allCallRead (headOf f) (remainderOf (bits f))) (selectiveRead (headOf f) (midOf f) (remainderOf (bits f)))) (refusal 14)) (refusal 1) .values ≡ uf ∷ pc ∷ rr ∷ di ∷ sd ∷ ma ∷ r ∷ []
+        → (surveillance uf ≡ true) × (rr ≤ 31)
+    go false y p z q e = let n : _≡_ {A = ℕ} 0 7 = ap length e in absurd (omega arith)
+    go true false p z q e = let n : _≡_ {A = ℕ} 0 7 = ap length e in absurd (omega arith)
+    go true true p true q e = let n : _≡_ {A = ℕ} 5 7 = ap length e in absurd (omega arith)
+    go true true p false q e =
+        let u : formatOf f ≡ uf = ap (λ (v : List ℕ). getD v 0 0) e in
+        let w : valueAt atRR (headOf f) ≡ rr = ap (λ (v : List ℕ). getD v 2 0) e in
+        let l = and-true (eqb (length f) (lengthOf (formatOf f))) (eqb (formatOf f) 11 || surveillance (formatOf f)) p .1 in
+        let k : surveillance (formatOf f) ≡ true = rw q at l in
+        (ap surveillance (sym u) ∙ k, omega (arith, w))
+
+-- "UF 4/20 draw AC, UF 5/21 draw ID; RR 16 and above draws the long form"
+pub always-drawn : (f : List ℕ) (uf pc rr di sd ma r : ℕ) → readUp f .values ≡ uf ∷ pc ∷ rr ∷ di ∷ sd ∷ ma ∷ r ∷ [] → drawn uf rr ≡ Format (pick (leb 16 rr) (shortReply uf + 16) (shortReply uf))
+unfolding drawn
+always-drawn f uf pc rr di sd ma r e =
+    let i = read-in f uf pc rr di sd ma r e in
+    rw (i .0, le-leb rr 31 (i .1)) (go (leb 16 rr))
+  where
+    go : (b : Bool) → pick b (Format (shortReply uf + 16)) (Format (shortReply uf)) ≡ Format (pick b (shortReply uf + 16) (shortReply uf))
+    go true = refl
+    go false = refl
 
 -- ---- every field of a reply is in its range
 first-in : (v : List ℕ) → All Of56Bits v → getD v 0 0 ≤ 0xFFFFFFFFFFFFFF

@@ -10,15 +10,18 @@ use Rattle.frames.specs.Building.{aReply, anAllCallReply}
 use Rattle.frames.specs.Reading.{readUp}
 use Rattle.frames.specs.Shared.{drawn}
 use Rattle.frames.specs.declared.answers.Draws.the-variants.{Format}
+use Rattle.frames.specs.declared.answers.Interrogator.{Interrogator}
 use Rattle.transponder.specs.declared.state.Sent.{Sent}
 use Rattle.transponder.specs.declared.state.Took.{Took}
 use Rattle.transponder.specs.declared.state.Transponder.{Transponder}
 use Rattle.transponder.specs.Lapse.{lapse}
+use Rattle.transponder.specs.Lockout.{lockedTo}
 use Rattle.transponder.specs.Replies.{sentBytes, drOf, umOf, mbOf, answers}
 use Rattle.transponder.specs.Calls.{laidOver, taking}
 use Rattle.transponder.specs.History.{Aircraft, Call, take, answer, after}
 use Rattle.lists.specs.Checks.{given}
 use Rattle.transponder.specs.Numbers.{checks}
+use Rattle.transponder.specs.Seen.{ACode, lastCommand, lockedSince}
 
 -- what is sent with a frame's answer
 abbrev pub sentBy : Took → Sent
@@ -31,6 +34,11 @@ pub record Demand1 (a : Aircraft) (cs : List Call) : Type 0 where
   pub unsent : (time draw : ℕ) (f : List ℕ) → (taking (after a cs) time draw f .number ≡ 0 → ⊥) → taking (after a cs) time draw f .length ≡ 0
   pub forward : (c : Call) → after a cs .time ≤ after a (c ∷ cs) .time
 
+-- demand 2, commands: at every time from the last one on, a code is locked exactly while less than 180 tenths have passed since the last command of it
+-- in the frames that were taken
+pub record Obeys (a : Aircraft) (cs : List Call) : Type 0 where
+  pub locked : (c : Interrogator) → ACode c → (now : ℕ) → after a cs .time ≤ now → lockedTo c (lapse now (after a cs) .timers) ≡ lockedSince now (lastCommand a c cs)
+
 -- "UF 4/20 draw AC, UF 5/21 draw ID", those it was made with
 abbrev pub valueFor : ℕ → Aircraft → ℕ
 valueFor uf a = pick (eqb uf 4 || eqb uf 20) (a .ac) (a .id)
@@ -39,7 +47,7 @@ valueFor uf a = pick (eqb uf 4 || eqb uf 20) (a .ac) (a .id)
 abbrev pub replyFrom : Aircraft → Transponder → ℕ → ℕ → ℕ → ℕ → ℕ → List ℕ
 replyFrom a u df uf rr di sd = aReply df (a .fs) (drOf (u .messages)) (umOf di sd (u .holder)) (valueFor uf a) (mbOf rr di sd (u .messages)) (a .address)
 
--- a selective interrogation for this aircraft that is taken draws a format, and exactly the frame of that format is sent; an all-call that is answered is
+-- demand 2, replies: a selective interrogation for this aircraft that is taken draws a format, and exactly the frame of that format is sent; an all-call that is answered is
 -- answered by exactly the DF 11 over its code: no number of a history's transponder is one that no frame can carry
 pub record Sends (a : Aircraft) (cs : List Call) (time draw : ℕ) (f : List ℕ) : Type 0 where
   pub selective : (uf pc rr di sd ma r df : ℕ) → readUp f .values ≡ uf ∷ pc ∷ rr ∷ di ∷ sd ∷ ma ∷ r ∷ [] → laidOver (a .address) r ≡ true → drawn uf rr ≡ Format df
