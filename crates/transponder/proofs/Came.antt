@@ -1,12 +1,13 @@
 -- Theorems of calls: what a call can come to, that a refusal changes nothing, that what is not for this aircraft changes time alone, and what a reply shows.
 -- Assumes nothing.
 use Prim.Native.Nat.{ℕ, _≤_, _<_}
+use native.Mathlib.Omega.{arith}
 use mathlib.Core.Path.{_≡_, refl, ap, _∙_}
 use mathlib.Core.Bool.{Bool, true, false}
 use mathlib.Core.List.{List, [], _∷_}
 use lib.Dec.{eqb, leb}
 use lib.ListN.{length, getD, replicate}
-use borrow.Author.Tests.{eqb-true, eqb-false, leb-true, leb-false, le-leb}
+use borrow.Author.Tests.{eqb-true, eqb-false, leb-true, leb-false}
 use Rattle.lists.specs.Lists.{pick}
 use Rattle.lists.proofs.Tests.{and-yes, and-no-left, and-no-right}
 use Rattle.parity.specs.Messages.{whole, AreBytes}
@@ -51,10 +52,6 @@ taken r = record { number = r .number; transponder = r .transponder }
 abbrev queued : Queued → Answer
 queued r = record { number = r .number; transponder = r .transponder }
 
--- a number of the table is not 0
-numbered : (n : ℕ) → eqb n 0 ≡ false → n ≡ 0 → ⊥
-numbered n e q = eqb-false n 0 e q
-
 -- a check that is passed leads to the next one, and else its number is given
 module _ (t : Transponder) (c : Call) where
   test : (b : Bool) (n : ℕ) (y : Took) → (n ≡ 0 → ⊥) → (b ≡ true → Came t c (taken y)) → Came t c (taken (pick b y (refusing n t)))
@@ -91,16 +88,16 @@ from t time draw f u p (moved i e) = did-steps time draw f i p (ap done e)
 pub came : (t : Transponder) (c : Call) → Came t c (answer t c)
 unfolding taking queuing
 came t (take time draw f) =
-    test t (take time draw f) (whole (length f)) 1 _ (numbered 1 refl)
-    (λ _. test t (take time draw f) (leb draw 15) 2 _ (numbered 2 refl)
-    (λ _. test t (take time draw f) (leb (t .time) time) 15 _ (numbered 15 refl)
+    test t (take time draw f) (whole (length f)) 1 _ (eqb-false 1 0 refl)
+    (λ _. test t (take time draw f) (leb draw 15) 2 _ (eqb-false 2 0 refl)
+    (λ _. test t (take time draw f) (leb (t .time) time) 15 _ (eqb-false 15 0 refl)
     (λ p. from t time draw f _ (leb-true (t .time) time p) (what-is-heard draw (lapse time t) (readUp f .values)))))
 came t (queue m b) = go (eqb (length m) 7) refl (leb 8 (length (waiting (t .messages)))) refl
   where
     go : (x : Bool) → eqb (length m) 7 ≡ x → (y : Bool) → leb 8 (length (waiting (t .messages))) ≡ y
         → Came t (queue m b) (queued (pick x (pick y (record { number = 6; transponder = t }) (record { number = 0; transponder = withMessages (messagesWith (numberOf m) (t .messages)) t })) (record { number = 1; transponder = t })))
-    go false e y h = refusal 1 (numbered 1 refl) refl
-    go true e true h = refusal 6 (numbered 6 refl) refl
+    go false e y h = refusal 1 (eqb-false 1 0 refl) refl
+    go true e true h = refusal 6 (eqb-false 6 0 refl) refl
     go true e false h = did-queue m b (eqb-true (length m) 7 e) (leb-false 8 (length (waiting (t .messages))) h) refl
 
 -- ---- "a refusal returns its number alone and changes nothing", time included
@@ -127,23 +124,33 @@ refusal-sends-nothing t time draw f = go (whole (length f)) (leb draw 15) (leb (
     go true false d n = refl
     go false b d n = refl
 
--- ---- what is not for this aircraft changes time alone, and gets no reply
-module _ (t : Transponder) (time draw : ℕ) (f : List ℕ) (h : whole (length f) ≡ true) (d : draw ≤ 15) (p : t .time ≤ time) where
-  accepted : taking t time draw f ≡ calls.done (heard draw (lapse time t) (readUp f .values))
-  unfolding taking
-  accepted = rw (h, le-leb draw 15 d, le-leb (t .time) time p)
+-- ---- a frame that is not refused
+pub taken-is : (t : Transponder) (time draw : ℕ) (f : List ℕ) → taking t time draw f .number ≡ 0 → taking t time draw f ≡ calls.done (heard draw (lapse time t) (readUp f .values))
+unfolding taking
+taken-is t time draw f = go (whole (length f)) (leb draw 15) (leb (t .time) time) _
+  where
+    go : (x y z : Bool) (w : Took) → pick x (pick y (pick z w (refusing 15 t)) (refusing 2 t)) (refusing 1 t) .number ≡ 0 → pick x (pick y (pick z w (refusing 15 t)) (refusing 2 t)) (refusing 1 t) ≡ w
+    go true true true w e = refl
+    go true true false w e = absurd (omega arith)
+    go true false z w e = absurd (omega arith)
+    go false y z w e = absurd (omega arith)
 
-  pub another-address : (uf pc rr di sd ma r : ℕ) → readUp f .values ≡ uf ∷ pc ∷ rr ∷ di ∷ sd ∷ ma ∷ r ∷ [] → laidOver (lapse time t .address) r ≡ false → taking t time draw f ≡ calls.done (unmoved (lapse time t))
-  unfolding heardSelective
-  another-address uf pc rr di sd ma r e l = accepted ∙ ap (λ (v : List ℕ). calls.done (heard draw (lapse time t) v)) e ∙ (rw l)
+-- what is not for this aircraft changes time alone, and gets no reply
+module _ (t : Transponder) (time draw : ℕ) (f : List ℕ) (n : taking t time draw f .number ≡ 0) where
+  reads : (vs : List ℕ) → readUp f .values ≡ vs → taking t time draw f ≡ calls.done (heard draw (lapse time t) vs)
+  reads vs e = taken-is t time draw f n ∙ ap (λ (v : List ℕ). calls.done (heard draw (lapse time t) v)) e
+
+  pub another-address : (uf pc rr di sd ma r : ℕ) → readUp f .values ≡ uf ∷ pc ∷ rr ∷ di ∷ sd ∷ ma ∷ r ∷ [] → laidOver (t .address) r ≡ false → taking t time draw f ≡ calls.done (unmoved (lapse time t))
+  unfolding heardSelective lapse
+  another-address uf pc rr di sd ma r e l = reads (uf ∷ pc ∷ rr ∷ di ∷ sd ∷ ma ∷ r ∷ []) e ∙ (rw l)
 
   pub another-all-call : (pr ic cl r : ℕ) → readUp f .values ≡ 11 ∷ pr ∷ ic ∷ cl ∷ r ∷ [] → laidOver 0xFFFFFF r ≡ false → taking t time draw f ≡ calls.done (unmoved (lapse time t))
   unfolding heardAllCall
-  another-all-call pr ic cl r e l = accepted ∙ ap (λ (v : List ℕ). calls.done (heard draw (lapse time t) v)) e ∙ (rw l)
+  another-all-call pr ic cl r e l = reads (11 ∷ pr ∷ ic ∷ cl ∷ r ∷ []) e ∙ (rw l)
 
   -- another format, or of the wrong length for its format: nothing is read
   pub another-format : readUp f .values ≡ [] → taking t time draw f ≡ calls.done (unmoved (lapse time t))
-  another-format e = accepted ∙ ap (λ (v : List ℕ). calls.done (heard draw (lapse time t) v)) e
+  another-format e = reads [] e
 
 -- ---- DR, UM and MB of a reply are those of the state after the closeout
 pub reply-after-closeout : (uf pc rr di sd df : ℕ) (t : Transponder) → drawn uf rr ≡ Format df

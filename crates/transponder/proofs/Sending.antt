@@ -30,10 +30,11 @@ use Rattle.transponder.specs.State.{waiting, waits}
 use Rattle.transponder.specs.Lapse.{lapse}
 use Rattle.transponder.specs.Replies.{sentBytes, sending, drOf, hidesUM, umOf, bds2, mbOf, respond, answersCode, answers, answerAllCall}
 use Rattle.transponder.specs.Calls as calls
-use Rattle.transponder.specs.Calls.{makeRanged, steps, interrogated, heardSelective, heardAllCall, heard, refusing, taking}
+use Rattle.transponder.specs.Calls.{makeRanged, steps, interrogated, heardSelective, heardAllCall, heard, taking}
 use Rattle.transponder.specs.History.{Aircraft, made, Call, take, after}
 use Rattle.transponder.specs.Kept.{HolderIn, Of56Bits, Kept}
 use Rattle.transponder.specs.Demands.{sentBy, valueFor, replyFrom, Sends}
+use Rattle.transponder.proofs.Came.{taken-is}
 use Rattle.transponder.proofs.Keeping.{kept-lapse, kept-steps, always-kept}
 
 -- ---- the format that is drawn
@@ -191,17 +192,6 @@ module _ (a : Aircraft) (u : Transponder) (k : Kept a u) (pr ic cl draw : ℕ) (
   answers-it : answerAllCall pr ic cl draw u ≡ sentBytes (anAllCallReply (a .ca) (a .address) cl ic)
   unfolding answerAllCall allCallReplying sending
   answers-it = rw (e, k .same .ca, k .same .address, all-call-ranged)
-
--- ---- a frame that is taken
-pub taken-is : (t : Transponder) (time draw : ℕ) (f : List ℕ) → taking t time draw f .number ≡ 0 → taking t time draw f ≡ calls.done (heard draw (lapse time t) (readUp f .values))
-unfolding taking
-taken-is t time draw f = go (whole (length f)) (leb draw 15) (leb (t .time) time) _
-  where
-    go : (x y z : Bool) (w : Took) → pick x (pick y (pick z w (refusing 15 t)) (refusing 2 t)) (refusing 1 t) .number ≡ 0 → pick x (pick y (pick z w (refusing 15 t)) (refusing 2 t)) (refusing 1 t) ≡ w
-    go true true true w e = refl
-    go true true false w e = absurd (omega arith)
-    go true false z w e = absurd (omega arith)
-    go false y z w e = absurd (omega arith)
 
 -- ---- of every history
 pub always-sent : (a : Aircraft) → made a .number ≡ 0 → (cs : List Call) (time draw : ℕ) (f : List ℕ) → taking (after a cs) time draw f .number ≡ 0 → Sends a cs time draw f

@@ -20,30 +20,30 @@ aircraft = record { address = 0x484FDE; ac = 0x1718; id = 0x092D; fs = 0; ca = 5
 abbrev asking : ℕ → ℕ → ℕ → ℕ → List ℕ
 asking pc rr di sd = frames.selective 4 pc rr di sd 0 0x484FDE
 
--- the same as a call at a time
+-- the same as a call: its time, then PC, RR, DI and SD
 abbrev ask : ℕ → ℕ → ℕ → ℕ → ℕ → Call
 ask time pc rr di sd = history.take time 0 (asking pc rr di sd)
 
 -- a message of the bytes 0, 0, 0, 0, 0, 0 and b
-abbrev tail : (b : ℕ) → b < 256 → Call
-tail b h = history.queue (0 ∷ 0 ∷ 0 ∷ 0 ∷ 0 ∷ 0 ∷ b ∷ []) (omega arith, (omega arith, (omega arith, (omega arith, (omega arith, (omega arith, (h, tt)))))))
+abbrev message : (b : ℕ) → b < 256 → Call
+message b h = history.queue (0 ∷ 0 ∷ 0 ∷ 0 ∷ 0 ∷ 0 ∷ b ∷ []) (omega arith, (omega arith, (omega arith, (omega arith, (omega arith, (omega arith, (h, tt)))))))
 
 -- one message waits, and two
 abbrev one : List Call
-one = tail 0xAA (omega arith) ∷ []
+one = message 0xAA (omega arith) ∷ []
 
 abbrev two : List Call
-two = tail 0xBB (omega arith) ∷ one
+two = message 0xBB (omega arith) ∷ one
 
 -- ---- what is seen
--- DR, UM and MB of the reply to UF 4 after a history
+-- after a history, the newest call first: DR, UM and MB of the reply to UF 4 at a time, with PC, RR, DI and SD
 abbrev shown : List Call → ℕ → ℕ → ℕ → ℕ → ℕ → List ℕ
 shown cs time pc rr di sd =
     let r = taking (after aircraft cs) time 0 (asking pc rr di sd) in
     let vs = readDown (take (r .length) (r .reply)) .values in
     getD vs 2 0 ∷ getD vs 3 0 ∷ getD vs 5 0 ∷ []
 
--- the bytes sent to an all-call after a history: 7, or none
+-- after a history: the bytes sent, 7 or none, to an all-call at a time, with PR, IC, CL and its draw
 abbrev called : List Call → ℕ → ℕ → ℕ → ℕ → ℕ → ℕ
 called cs time pr ic cl draw = taking (after aircraft cs) time draw (frames.allCall pr ic cl) .length
 
@@ -131,7 +131,7 @@ closeouts =
     -- PC 4 with MBS 1: the reservation comes first, so II 3 holds and PC 4 removes nothing
     ∷ row (shown two 0 4 16 1 (iis 3 + mbs 1)) (1 ∷ 13 ∷ 0xAA ∷ [])
     -- PC 4 with MBS 1 and nothing waiting: nobody holds what comes next
-    ∷ row (shown (tail 0xAA (omega arith) ∷ ask 0 4 0 1 (iis 3 + mbs 1) ∷ []) 0 0 16 0 0) (1 ∷ 0 ∷ 0xAA ∷ [])
+    ∷ row (shown (message 0xAA (omega arith) ∷ ask 0 4 0 1 (iis 3 + mbs 1) ∷ []) 0 0 16 0 0) (1 ∷ 0 ∷ 0xAA ∷ [])
     ∷ []
 
 -- ---- refusals, after a frame at 100

@@ -2,7 +2,6 @@
 -- Assumes nothing.
 use mathlib.Core.Path.{_≡_}
 use native.Mathlib.Omega.{arith}
-use Prim.Native.Nat.{_-_}
 use lib.ListN.{length, length-take}
 use borrow.Author.Needs.{needs}
 use Rattle.model.proofs.messages.count.Statement.{statement}

@@ -2,7 +2,6 @@
 -- Assumes nothing.
 use mathlib.Core.Path.{sym}
 use native.Mathlib.Omega.{arith}
-use Prim.Native.Nat.{_-_}
 use lib.ListN.{length-take, List·getD-eq-default}
 use lib.Seq.{getD-take}
 use Rattle.transponder.specs.State.{waiting}

@@ -1,7 +1,6 @@
 -- `model::sending::short` meets its contract: seven bytes and seven zeros.
 -- Assumes nothing.
 use mathlib.Core.Path.{_≡_}
-use Prim.Native.Nat.{_-_}
 use lib.ListN.{length}
 use Rattle.model.proofs.Slots.{seven}
 use borrow.Author.Needs.{needs}
