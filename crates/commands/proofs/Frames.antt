@@ -2,8 +2,8 @@
 use Prim.Native.Nat.{ℕ}
 use mathlib.Core.Path.{_≡_}
 use mathlib.Core.List.{List}
-use Rattle.frames.specs.Answers.{Answer}
-use Rattle.frames.specs.Reading.{readUp, readDown, mbPart}
+use Rattle.fields.specs.Answers.{Answer}
+use Rattle.fields.specs.Reading.{readUp, readDown, mbPart}
 use Rattle.commands.specs.Frames.{readText, interrogationText, replyText}
 
 -- a reply that was read

@@ -27,13 +27,13 @@ use Rattle.parity.specs.Division.{remainderOf, remainderAnswer}
 use Rattle.parity.specs.Overlays.{overlayOf, uplinkOverlay}
 use Rattle.parity.specs.Correction.{correction}
 use Rattle.parity.proofs.Sizes.{Small, outcome-small}
-use Rattle.frames.specs.Answers as frames
-use Rattle.frames.specs.Bytes.{bytesOf, numberOf}
-use Rattle.frames.specs.Formats.{longFormat, surveillance, lengthOf, listed}
-use Rattle.frames.specs.Frames.{front, sealed, framed}
-use Rattle.frames.specs.Building.{selectiveRanged, allCallRanged, selective, allCall, building, allCalling}
-use Rattle.frames.specs.Codes.{stationRanged, whose, codeOf}
-use Rattle.frames.specs.Reading.{formatOf, readAs, allCallRead, selectiveRead, allCallReplyRead, surveillanceRead, mbPart}
+use Rattle.fields.specs.Answers as frames
+use Rattle.fields.specs.Bytes.{bytesOf, numberOf}
+use Rattle.fields.specs.Formats.{longFormat, surveillance, lengthOf, listed}
+use Rattle.fields.specs.Frames.{front, sealed, framed}
+use Rattle.fields.specs.Building.{selectiveRanged, allCallRanged, selective, allCall, building, allCalling}
+use Rattle.fields.specs.Codes.{stationRanged, whose, codeOf}
+use Rattle.fields.specs.Reading.{formatOf, readAs, allCallRead, selectiveRead, allCallReplyRead, surveillanceRead, mbPart}
 use Rattle.commands.specs.Texts.{unread, word, withNumber, withBytes, doneText, refusalText, answerText}
 use Rattle.commands.specs.Parity.{reckonedText, correctedText, remainderText, overlayText, fixedText, correctText}
 use Rattle.commands.specs.Building.{builtText, selectiveText, buildText, allCallText}

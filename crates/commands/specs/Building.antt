@@ -4,9 +4,9 @@ use mathlib.Core.List.{List}
 use lib.ListN.{replicate}
 use Rattle.text.specs.Number.{numberIn}
 use Rattle.text.specs.Hex.{hexOf, bytesIn}
-use Rattle.frames.specs.Answers.{Outcome}
-use Rattle.frames.specs.Formats.{lengthOf}
-use Rattle.frames.specs.Building.{building, allCalling}
+use Rattle.fields.specs.Answers.{Outcome}
+use Rattle.fields.specs.Formats.{lengthOf}
+use Rattle.fields.specs.Building.{building, allCalling}
 use Rattle.commands.specs.Texts.{word, withNumber, withBytes, answerText}
 
 -- the frame that was built

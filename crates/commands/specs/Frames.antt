@@ -9,10 +9,10 @@ use Rattle.text.specs.Plain.{plain}
 use Rattle.text.specs.Hex.{hexIn, hexOf, bytesIn}
 use Rattle.text.specs.Line.{sameAs}
 use Rattle.text.specs.Number.{numberIn}
-use Rattle.frames.specs.Answers.{Answer, own, matchingII}
-use Rattle.frames.specs.Formats.{longFormat}
-use Rattle.frames.specs.Reading.{readUp, readDown, mbPart}
-use Rattle.frames.specs.Codes.{codeOf}
+use Rattle.fields.specs.Answers.{Answer, own, matchingII}
+use Rattle.fields.specs.Formats.{longFormat}
+use Rattle.fields.specs.Reading.{readUp, readDown, mbPart}
+use Rattle.fields.specs.Codes.{codeOf}
 use Rattle.commands.specs.Texts.{word, withNumber, withBytes, answerText}
 
 -- ---- a frame that is read

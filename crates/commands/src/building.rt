@@ -1,7 +1,7 @@
 // The lines `build UF PC RR DI SD MA ADDRESS` and `allcall PR IC CL`.
 ghost use Rattle.text.specs.Put.{Put};
 ghost use Rattle.text.specs.Line.{wordsOf};
-ghost use Rattle.frames.specs.Answers.{said};
+ghost use Rattle.fields.specs.Answers.{said};
 ghost use Rattle.commands.specs.Building.{builtText, selectiveText, buildText, allCallText};
 use crate::answers::put_refusal;
 use crate::answers::put_unread;

@@ -1,7 +1,7 @@
 // The line `code HEX CL IC PERMIT`.
 ghost use Rattle.text.specs.Put.{Put};
 ghost use Rattle.text.specs.Line.{wordsOf};
-ghost use Rattle.frames.specs.Answers.{codeSaid};
+ghost use Rattle.fields.specs.Answers.{codeSaid};
 ghost use Rattle.commands.specs.Frames.{whoseText, codeText};
 use crate::answers::put_refusal;
 use crate::answers::put_unread;

@@ -2,7 +2,7 @@
 ghost use mathlib.Core.Path.{_≡_};
 ghost use mathlib.Core.List.{_∷_, []};
 ghost use Rattle.text.specs.Put.{Put};
-ghost use Rattle.frames.specs.Formats.{longFormat};
+ghost use Rattle.fields.specs.Formats.{longFormat};
 ghost use Rattle.commands.specs.Texts.{doneText};
 ghost use Rattle.commands.specs.Frames.{numberText, endText, valuesText};
 

@@ -1,8 +1,8 @@
 // The address found again from an uplink remainder.
 ghost use mathlib.Core.Path.{_≡_};
 ghost use Prim.Native.Nat.{_<_};
-ghost use Rattle.frames.specs.Addresses.{quotientOf, addressOf};
-use crate::answers::Address;
+ghost use Rattle.fields.specs.Addresses.{quotientOf, addressOf};
+use fields::Address;
 
 // The quotient of a remainder times x^24 by the generator.
 fn quotient(remainder: u32) -> u32

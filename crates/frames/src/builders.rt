@@ -1,16 +1,16 @@
 // Interrogations built into a lent buffer.
 ghost use mathlib.Core.Path.{_≡_};
 ghost use Prim.Native.Nat.{_<_};
-ghost use Rattle.frames.specs.Answers.{said};
-ghost use Rattle.frames.specs.Fields.{selectiveHead, allCallHead};
-ghost use Rattle.frames.specs.Building.{anAddress, selectiveRanged, allCallRanged, building, allCalling};
-use crate::answers::Built;
+ghost use Rattle.fields.specs.Answers.{said};
+ghost use Rattle.fields.specs.Fields.{selectiveHead, allCallHead};
+ghost use Rattle.fields.specs.Building.{anAddress, selectiveRanged, allCallRanged, building, allCalling};
 use crate::bytes::number_of;
 use crate::formats::length_of;
 use crate::formats::long_format;
 use crate::formats::surveillance;
 use crate::frame::overlay_of;
 use crate::frame::write;
+use fields::Built;
 
 // Whether a number is an address: 1 to 16,777,214.
 pub fn an_address(a: u32) -> bool

@@ -3,7 +3,7 @@ ghost use mathlib.Core.Path.{_≡_};
 ghost use lib.ListN.{length};
 ghost use lib.Seq.{sets};
 ghost use Prim.Native.Nat.{_+_, _*_, _^_, _<_, _≤_};
-ghost use Rattle.frames.specs.Bytes.{bytesOf, numberOf};
+ghost use Rattle.fields.specs.Bytes.{bytesOf, numberOf};
 
 // The number that some bytes are.
 pub(crate) fn number_of(s: &[u8]) -> u64

@@ -1,9 +1,9 @@
 // The formats: which are listed at which length, and which one a request draws.
 ghost use mathlib.Core.Path.{_≡_};
-ghost use Rattle.frames.specs.Formats.{surveillance, longFormat, lengthOf, listed};
-ghost use Rattle.frames.specs.Shared.{shortReply, drawn};
+ghost use Rattle.fields.specs.Formats.{surveillance, longFormat, lengthOf, listed};
+ghost use Rattle.fields.specs.Shared.{shortReply, drawn};
 ghost use Prim.Native.Nat.{_≤_};
-use crate::answers::Draws;
+use fields::Draws;
 
 // Whether a format is one of 20 and 21.
 pub(crate) fn long_format(f: u32) -> bool

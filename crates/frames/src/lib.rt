@@ -1,6 +1,5 @@
 // Frames of document 01: interrogations and replies built and read, the codes of DF 11, and the MB bytes as a part of a buffer.
 mod addresses;
-mod answers;
 mod builders;
 mod bytes;
 mod codes;
@@ -12,19 +11,19 @@ mod read;
 mod replies;
 
 pub use addresses::address_of;
-pub use answers::Address;
-pub use answers::Built;
-pub use answers::Code;
-pub use answers::Down;
-pub use answers::Draws;
-pub use answers::Interrogator;
-pub use answers::Up;
 pub use builders::all_call;
 pub use builders::an_address;
 pub use builders::build;
 pub use builders::selective_ranged;
 pub use codes::code_for;
 pub use codes::code_of;
+pub use fields::Address;
+pub use fields::Built;
+pub use fields::Code;
+pub use fields::Down;
+pub use fields::Draws;
+pub use fields::Interrogator;
+pub use fields::Up;
 pub use formats::drawn;
 pub use formats::length_of;
 pub use formats::surveillance;

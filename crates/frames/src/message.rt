@@ -5,7 +5,7 @@ ghost use lib.ListN.{length};
 ghost use Prim.Native.Nat.{_<_};
 ghost use Rattle.parity.specs.Messages.{whole, bits};
 ghost use Rattle.parity.specs.Division.{remainderOf};
-ghost use Rattle.frames.specs.Fields.{headOf, midOf};
+ghost use Rattle.fields.specs.Fields.{headOf, midOf};
 use crate::bytes::number_of;
 use parity::Reckoned;
 

@@ -8,7 +8,7 @@ use mathlib.Core.Bool.{Bool, true, false, not, _&&_, true≢false, false≢true}
 use lib.ListN.{getD, set}
 use lib.Dec.{eqb, ltb}
 use Rattle.lists.specs.Lists.{pick, filter}
-use Rattle.frames.specs.Building.{anAddress}
+use Rattle.fields.specs.Building.{anAddress}
 use Rattle.planner.specs.declared.request.Ask.{Ask}
 use Rattle.planner.specs.declared.entry.Entry.{Entry}
 use Rattle.planner.specs.declared.entry.Mark.the-variants.{Answered}

@@ -10,8 +10,8 @@ use lib.Dec.{eqb, ltb}
 use Rattle.lists.specs.Lists.{pick}
 use Rattle.parity.specs.Answers.{Outcome}
 use Rattle.parity.specs.Correction.{sized}
-use Rattle.frames.specs.Formats.{lengthOf}
-use Rattle.frames.specs.Building.{anAddress}
+use Rattle.fields.specs.Formats.{lengthOf}
+use Rattle.fields.specs.Building.{anAddress}
 use Rattle.planner.specs.declared.request.Request.{Request}
 use Rattle.planner.specs.declared.shares.Setup.{Setup}
 use Rattle.planner.specs.Shares.{judged}

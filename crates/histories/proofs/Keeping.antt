@@ -14,8 +14,8 @@ use Rattle.lists.proofs.Count.{count-nil, count-snoc}
 use Rattle.lists.proofs.Held.{all-snoc, all-map}
 use Rattle.lists.proofs.Each.{all-set, all-kept, count-kept, none-fail, all-pass, all-image, count-image}
 use Rattle.lists.proofs.Keys.{fewer}
-use Rattle.frames.specs.Formats.{surveillance}
-use Rattle.frames.specs.Building.{anAddress, selectiveRanged}
+use Rattle.fields.specs.Formats.{surveillance}
+use Rattle.fields.specs.Building.{anAddress, selectiveRanged}
 use Rattle.planner.specs.declared.request.Request.{Request}
 use Rattle.planner.specs.declared.request.Ask.{Ask}
 use Rattle.planner.specs.declared.entry.Entry.{Entry}

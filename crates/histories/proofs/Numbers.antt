@@ -13,10 +13,10 @@ use Rattle.lists.proofs.Tests.{and-left, and-right, and-yes}
 use Rattle.parity.specs.Answers.{Outcome, refused}
 use Rattle.parity.specs.Messages.{bits}
 use Rattle.parity.specs.Correction.{weight, flipped, matching, want, judged, sized, ranged, correction}
-use Rattle.frames.specs.Formats.{surveillance, lengthOf}
-use Rattle.frames.specs.Building.{anAddress, selectiveRanged}
-use Rattle.frames.specs.Reading.{formatOf}
-use Rattle.frames.proofs.Ranges.{selective-in}
+use Rattle.fields.specs.Formats.{surveillance, lengthOf}
+use Rattle.fields.specs.Building.{anAddress, selectiveRanged}
+use Rattle.fields.specs.Reading.{formatOf}
+use Rattle.fields.proofs.Ranges.{selective-in}
 use Rattle.planner.specs.declared.request.Request.{Request}
 use Rattle.planner.specs.declared.shares.Setup.{Setup}
 use Rattle.planner.specs.Shares as shares

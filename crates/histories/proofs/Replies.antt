@@ -12,8 +12,8 @@ use Rattle.parity.specs.Answers.{Outcome, said}
 use Rattle.parity.specs.Correction.{sized, correction}
 use Rattle.parity.specs.Messages.{AreBytes}
 use Rattle.parity.proofs.Outcomes as parity
-use Rattle.frames.specs.Formats.{lengthOf}
-use Rattle.frames.specs.Reading.{formatOf}
+use Rattle.fields.specs.Formats.{lengthOf}
+use Rattle.fields.specs.Reading.{formatOf}
 use Rattle.histories.specs.declared.state.Station.{Station}
 use Rattle.histories.specs.State.{entriesOf}
 use Rattle.histories.specs.Replies.{expected, entryNumbered, isOpen, startOf, inWindow, ofFormat, Replied, refusedReply, settled, corrected, replied}

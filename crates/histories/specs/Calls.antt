@@ -7,8 +7,8 @@ use Rattle.lists.specs.Lists.{pick, countOf}
 use Rattle.planner.specs.declared.request.Request.{Request}
 use Rattle.planner.specs.declared.shares.Setup.{Setup}
 use Rattle.planner.specs.Shares.{judged}
-use Rattle.frames.specs.Formats.{surveillance}
-use Rattle.frames.specs.Building.{anAddress, selectiveRanged}
+use Rattle.fields.specs.Formats.{surveillance}
+use Rattle.fields.specs.Building.{anAddress, selectiveRanged}
 use Rattle.histories.specs.declared.state.Value.the-variants.{Never}
 use Rattle.histories.specs.declared.state.Target.{Target}
 use Rattle.histories.specs.declared.state.Targets.{Targets}

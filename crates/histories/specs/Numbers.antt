@@ -8,9 +8,9 @@ use Rattle.lists.specs.Checks.{Check, check}
 use Rattle.lists.specs.Lists.{countOf, every}
 use Rattle.parity.specs.Messages.{bits}
 use Rattle.parity.specs.Correction.{weight, matching, want, flipped, sized}
-use Rattle.frames.specs.Formats.{lengthOf}
-use Rattle.frames.specs.Building.{anAddress}
-use Rattle.frames.specs.Reading.{formatOf}
+use Rattle.fields.specs.Formats.{lengthOf}
+use Rattle.fields.specs.Building.{anAddress}
+use Rattle.fields.specs.Reading.{formatOf}
 use Rattle.planner.specs.declared.shares.Setup.{Setup}
 use Rattle.planner.specs.declared.request.Request.{Request}
 use Rattle.planner.specs.Shares.{inRange, ordered, sharesFit}

@@ -8,12 +8,12 @@ use lib.IntN.{ℤ, pos, subℕ}
 use Rattle.lists.specs.Lists.{pick}
 use Rattle.parity.specs.Answers.{Outcome}
 use Rattle.parity.specs.Correction.{sized, correction}
-use Rattle.frames.specs.declared.answers.Draws.{Draws}
-use Rattle.frames.specs.declared.answers.Draws.the-variants.{Format, Nothing}
-use Rattle.frames.specs.Fields.{headOf, valueAt, atACorID}
-use Rattle.frames.specs.Formats.{lengthOf}
-use Rattle.frames.specs.Reading.{formatOf}
-use Rattle.frames.specs.Shared.{drawn}
+use Rattle.fields.specs.declared.answers.Draws.{Draws}
+use Rattle.fields.specs.declared.answers.Draws.the-variants.{Format, Nothing}
+use Rattle.fields.specs.Fields.{headOf, valueAt, atACorID}
+use Rattle.fields.specs.Formats.{lengthOf}
+use Rattle.fields.specs.Reading.{formatOf}
+use Rattle.fields.specs.Shared.{drawn}
 use Rattle.planner.specs.declared.request.Request.{Request}
 use Rattle.planner.specs.declared.entry.Entry.{Entry}
 use Rattle.planner.specs.declared.entry.Mark.{Mark}

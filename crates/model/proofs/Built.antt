@@ -12,9 +12,9 @@ use Rattle.parity.specs.Answers as reckoned
 use Rattle.parity.specs.Overlays.{overlayOf, uplinkOverlay}
 use Rattle.parity.specs.declared.answers.Reckoned.{Reckoned}
 use Rattle.parity.specs.declared.answers.Reckoned.the-variants as is
-use Rattle.frames.specs.Answers.{Outcome, said}
-use Rattle.frames.specs.declared.answers.Built.{Built}
-use Rattle.frames.specs.declared.answers.Built.the-variants.{Done, Length, Range}
+use Rattle.fields.specs.Answers.{Outcome, said}
+use Rattle.fields.specs.declared.answers.Built.{Built}
+use Rattle.fields.specs.declared.answers.Built.the-variants.{Done, Length, Range}
 use Rattle.transponder.specs.Replies.{silence, sentBytes, sending}
 use Rattle.transponder.specs.Calls.{laidOver}
 use Rattle.model.proofs.Slots.{fourteen}

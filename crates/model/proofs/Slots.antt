@@ -8,7 +8,7 @@ use mathlib.Core.List.{List, [], _∷_, _++_, map, append-nil}
 use lib.Dec.{leb}
 use borrow.Author.Tests.{leb-true}
 use Rattle.lists.proofs.Tests.{and-true}
-use Rattle.frames.specs.Building.{anAddress}
+use Rattle.fields.specs.Building.{anAddress}
 use Rattle.transponder.specs.declared.state.Lock.the-variants.{Since}
 use Rattle.transponder.specs.declared.state.Timer.{Timer}
 use Rattle.transponder.specs.declared.state.Timers.{Timers}

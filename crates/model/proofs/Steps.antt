@@ -8,17 +8,17 @@ use mathlib.Core.List.{List, [], _∷_}
 use borrow.Author.Tests.{eq-eqb, ne-eqb, le-leb, lt-leb}
 use lib.ListN.{length, getD, replicate, List·getD-eq-default}
 use Rattle.parity.specs.Messages.{whole}
-use Rattle.frames.specs.Answers.{Answer, upSaid}
-use Rattle.frames.specs.Building.{replying, allCallReplying}
-use Rattle.frames.specs.Bytes.{numberOf}
-use Rattle.frames.specs.Shared.{codeFor}
-use Rattle.frames.specs.Formats.{lengthOf}
-use Rattle.frames.specs.Shared.{drawn}
-use Rattle.frames.specs.Reading.{readUp}
-use Rattle.frames.specs.declared.answers.Up.{Up}
-use Rattle.frames.specs.declared.answers.Up.the-variants as up
-use Rattle.frames.specs.declared.answers.Interrogator.{Interrogator}
-use Rattle.frames.specs.declared.answers.Draws.the-variants.{Format, Nothing}
+use Rattle.fields.specs.Answers.{Answer, upSaid}
+use Rattle.fields.specs.Building.{replying, allCallReplying}
+use Rattle.fields.specs.Bytes.{numberOf}
+use Rattle.fields.specs.Shared.{codeFor}
+use Rattle.fields.specs.Formats.{lengthOf}
+use Rattle.fields.specs.Shared.{drawn}
+use Rattle.fields.specs.Reading.{readUp}
+use Rattle.fields.specs.declared.answers.Up.{Up}
+use Rattle.fields.specs.declared.answers.Up.the-variants as up
+use Rattle.fields.specs.declared.answers.Interrogator.{Interrogator}
+use Rattle.fields.specs.declared.answers.Draws.the-variants.{Format, Nothing}
 use Rattle.transponder.specs.declared.state.Timer.{Timer}
 use Rattle.transponder.specs.declared.state.Timers.{Timers}
 use Rattle.transponder.specs.declared.state.Holder.{Holder}

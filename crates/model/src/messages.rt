@@ -2,7 +2,7 @@
 ghost use mathlib.Core.Path.{_≡_};
 ghost use Prim.Native.Nat.{_<_, _≤_};
 ghost use lib.ListN.{length};
-ghost use Rattle.frames.specs.Bytes.{numberOf};
+ghost use Rattle.fields.specs.Bytes.{numberOf};
 ghost use Rattle.transponder.specs.State.{waiting, waits, firstOf, messagesWith, messagesAfter};
 ghost use Rattle.transponder.specs.Calls.{queuing};
 use transponder::Messages;

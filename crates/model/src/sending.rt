@@ -1,8 +1,8 @@
 // A reply's bytes in 14, or none.
 ghost use mathlib.Core.Path.{_≡_};
 ghost use lib.ListN.{replicate};
-ghost use Rattle.frames.specs.Building.{replying, allCallReplying};
-ghost use Rattle.frames.specs.Formats.{lengthOf};
+ghost use Rattle.fields.specs.Building.{replying, allCallReplying};
+ghost use Rattle.fields.specs.Formats.{lengthOf};
 ghost use Rattle.transponder.specs.Replies.{silence, sentBytes, sending};
 use frames::Built;
 use transponder::Sent;

@@ -7,7 +7,7 @@ use Prim.Native.Nat.{ℕ, _<_, _≤_}
 use borrow.Author.Tests.{eq-eqb, ne-eqb, lt-ltb, le-ltb}
 use lib.ListN.{length}
 use Rattle.parity.specs.Correction.{sized}
-use Rattle.frames.specs.Formats.{lengthOf}
+use Rattle.fields.specs.Formats.{lengthOf}
 use Rattle.planner.specs.declared.entry.Entry.{Entry}
 use Rattle.histories.specs.declared.state.Station.{Station}
 use Rattle.histories.specs.State.{entriesOf}

@@ -5,8 +5,8 @@ use mathlib.Core.List.{List, [], _∷_}
 use native.Mathlib.Omega.{arith}
 use Prim.Native.Nat.{ℕ, _+_, _*_, _/_, _%_, _<_}
 use lib.ListN.{length, getD}
-use Rattle.frames.specs.Fields.{headOf, valueAt, atUF, atACorID}
-use Rattle.frames.specs.Reading.{formatOf}
+use Rattle.fields.specs.Fields.{headOf, valueAt, atUF, atACorID}
+use Rattle.fields.specs.Reading.{formatOf}
 use Rattle.histories.specs.Replies.{valueIn}
 
 -- four bytes as a number

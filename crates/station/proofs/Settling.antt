@@ -10,7 +10,7 @@ use lib.IntN.{ℤ}
 use Rattle.lists.specs.Lists.{pick}
 use Rattle.parity.specs.Answers.{Outcome}
 use Rattle.parity.specs.Correction.{correction}
-use Rattle.frames.specs.Reading.{formatOf}
+use Rattle.fields.specs.Reading.{formatOf}
 use Rattle.planner.specs.declared.entry.Entry.{Entry}
 use Rattle.station.specs.declared.correcting.Corrected.{Corrected}
 use Rattle.histories.specs.declared.state.Targets.{Targets}

@@ -17,7 +17,7 @@ use Rattle.parity.specs.declared.answers.Fix.the-variants.{Flips, Length, Range
 use Rattle.parity.specs.Answers.{Outcome, said, refused, numberOf, flipsOf}
 use Rattle.parity.specs.Messages.{bits, whole}
 use Rattle.parity.specs.Correction.{weight, matching, want, judged, sized, ranged, correction}
-use Rattle.frames.specs.Reading.{formatOf}
+use Rattle.fields.specs.Reading.{formatOf}
 use Rattle.station.specs.declared.correcting.Corrected.{Corrected}
 use Rattle.histories.specs.Replies.{ofFormat}
 use Rattle.station.specs.Trials.{outcome, onTrial}

@@ -5,7 +5,7 @@ use lib.Dec.{eqb}
 use lib.IntN.{pos}
 use Rattle.lists.specs.Lists.{pick}
 use Rattle.parity.specs.Answers.{Outcome}
-use Rattle.frames.specs.Reading.{formatOf}
+use Rattle.fields.specs.Reading.{formatOf}
 use Rattle.station.specs.declared.correcting.Corrected.{Corrected}
 use Rattle.histories.specs.declared.state.Station.{Station}
 use Rattle.histories.specs.declared.state.Reply.{Reply}

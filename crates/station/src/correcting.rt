@@ -5,7 +5,7 @@ ghost use Prim.Native.Nat.{_<_};
 ghost use lib.ListN.{length};
 ghost use Rattle.parity.specs.Answers.{numberOf, flipsOf};
 ghost use Rattle.parity.specs.Correction.{sized, correction};
-ghost use Rattle.frames.specs.Reading.{formatOf};
+ghost use Rattle.fields.specs.Reading.{formatOf};
 ghost use Rattle.histories.specs.Replies.{valueIn, ofFormat};
 ghost use Rattle.station.specs.Trials.{outcome, onTrial};
 use parity::Fix;

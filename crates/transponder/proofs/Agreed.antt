@@ -6,11 +6,11 @@ use Rattle.lists.specs.Listing.{Agrees}
 use Rattle.parity.specs.Messages.{bits}
 use Rattle.parity.specs.Division.{shiftIn, divide, remainderOf}
 use Rattle.parity.specs.Overlays.{lowBits, times, overlayOf}
-use Rattle.frames.specs.Building as frames
-use Rattle.frames.specs.Fields.{headOf, midOf, selectiveHead, allCallHead, replyHead, allCallReplyHead}
-use Rattle.frames.specs.Frames.{front, sealed}
-use Rattle.frames.specs.Reading.{readAs, selectiveRead, allCallRead, surveillanceRead}
-use Rattle.frames.specs.Shared.{codeFor, drawn}
+use Rattle.fields.specs.Building as frames
+use Rattle.fields.specs.Fields.{headOf, midOf, selectiveHead, allCallHead, replyHead, allCallReplyHead}
+use Rattle.fields.specs.Frames.{front, sealed}
+use Rattle.fields.specs.Reading.{readAs, selectiveRead, allCallRead, surveillanceRead}
+use Rattle.fields.specs.Shared.{codeFor, drawn}
 use Rattle.transponder.specs.State.{started, messagesWith, messagesAfter}
 use Rattle.transponder.specs.Lapse.{timerAfter, timersAfter, lapse}
 use Rattle.transponder.specs.Lockout.{startedByLOS, startedByLSS, commandOfSD, commanded, lockout, lockedTo}

@@ -11,12 +11,12 @@ use borrow.Author.Tests.{eqb-true, eqb-false, leb-true, leb-false}
 use Rattle.lists.specs.Lists.{pick}
 use Rattle.lists.proofs.Tests.{and-yes, and-no-left, and-no-right}
 use Rattle.parity.specs.Messages.{whole, AreBytes}
-use Rattle.frames.specs.Building.{replying}
-use Rattle.frames.specs.Bytes.{numberOf}
-use Rattle.frames.specs.Formats.{lengthOf}
-use Rattle.frames.specs.Shared.{drawn}
-use Rattle.frames.specs.Reading.{readUp}
-use Rattle.frames.specs.declared.answers.Draws.the-variants.{Format}
+use Rattle.fields.specs.Building.{replying}
+use Rattle.fields.specs.Bytes.{numberOf}
+use Rattle.fields.specs.Formats.{lengthOf}
+use Rattle.fields.specs.Shared.{drawn}
+use Rattle.fields.specs.Reading.{readUp}
+use Rattle.fields.specs.declared.answers.Draws.the-variants.{Format}
 use Rattle.transponder.specs.declared.state.Transponder.{Transponder}
 use Rattle.transponder.specs.declared.state.Queued.{Queued}
 use Rattle.transponder.specs.declared.state.Went.{Went}

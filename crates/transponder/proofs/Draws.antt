@@ -8,9 +8,9 @@ use lib.Dec.{leb, ltb}
 use borrow.Author.Tests.{leb-true, le-leb, lt-leb, ltb-true, lt-ltb}
 use Rattle.lists.specs.Lists.{pick, countBelow}
 use Rattle.lists.proofs.Tests.{and-true, and-yes}
-use Rattle.frames.specs.Shared.{codeFor}
-use Rattle.frames.specs.declared.answers.Interrogator.{Interrogator}
-use Rattle.frames.specs.declared.answers.Interrogator.the-variants.{II, SI, Nobody}
+use Rattle.fields.specs.Shared.{codeFor}
+use Rattle.fields.specs.declared.answers.Interrogator.{Interrogator}
+use Rattle.fields.specs.declared.answers.Interrogator.the-variants.{II, SI, Nobody}
 use Rattle.transponder.specs.declared.state.Transponder.{Transponder}
 use Rattle.transponder.specs.Lockout.{lockedTo}
 use Rattle.transponder.specs.Replies.{drawsBelow, free, answersFree, answersCode, answers}

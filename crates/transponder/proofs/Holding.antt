@@ -10,7 +10,7 @@ use lib.ListN as list
 use lib.ListN.{length, getD, drop, length-append}
 use borrow.Author.Tests.{ne-eqb}
 use Rattle.lists.proofs.Over.{take-over}
-use Rattle.frames.specs.Reading.{readUp}
+use Rattle.fields.specs.Reading.{readUp}
 use Rattle.transponder.specs.declared.state.Holder.{Holder}
 use Rattle.transponder.specs.declared.state.Holder.the-variants.{Nobody, Held}
 use Rattle.transponder.specs.declared.state.Messages.{Messages}

@@ -12,9 +12,9 @@ use Rattle.lists.specs.Lists.{pick, All}
 use Rattle.lists.proofs.Tests.{and-true}
 use Rattle.lists.proofs.Held.{all-snoc}
 use Rattle.parity.specs.Messages.{AreBytes}
-use Rattle.frames.specs.Bytes.{numberOf}
-use Rattle.frames.specs.Reading.{readUp}
-use Rattle.frames.proofs.Numbers.{number-lt}
+use Rattle.fields.specs.Bytes.{numberOf}
+use Rattle.fields.specs.Reading.{readUp}
+use Rattle.fields.proofs.Numbers.{number-lt}
 use Rattle.transponder.specs.declared.state.Holder.{Holder}
 use Rattle.transponder.specs.declared.state.Holder.the-variants.{Nobody, Held}
 use Rattle.transponder.specs.declared.state.Messages.{Messages}

@@ -12,15 +12,15 @@ use Rattle.lists.specs.Lists.{pick, All}
 use Rattle.lists.proofs.Tests.{and-true, and-yes}
 use Rattle.parity.specs.Messages.{bits, whole}
 use Rattle.parity.specs.Division.{remainderOf}
-use Rattle.frames.specs.Building.{anAddress, replyRanged, allCallReplyRanged, anAllCallReply, replying, allCallReplying}
-use Rattle.frames.specs.Formats.{longFormat, surveillance, lengthOf, listed}
-use Rattle.frames.specs.Answers.{refusal}
-use Rattle.frames.specs.Fields.{valueAt, atRR, headOf, midOf}
-use Rattle.frames.specs.Reading.{formatOf, readAs, selectiveRead, allCallRead, readUp}
-use Rattle.frames.specs.Shared.{ofSI, siNumber, codeFor, shortReply, drawn}
-use Rattle.frames.specs.declared.answers.Draws.{Draws}
-use Rattle.frames.specs.declared.answers.Draws.the-variants.{Format, Nothing}
-use Rattle.frames.specs.declared.answers.Interrogator.the-variants.{II, SI, Nobody}
+use Rattle.fields.specs.Building.{anAddress, replyRanged, allCallReplyRanged, anAllCallReply, replying, allCallReplying}
+use Rattle.fields.specs.Formats.{longFormat, surveillance, lengthOf, listed}
+use Rattle.fields.specs.Answers.{refusal}
+use Rattle.fields.specs.Fields.{valueAt, atRR, headOf, midOf}
+use Rattle.fields.specs.Reading.{formatOf, readAs, selectiveRead, allCallRead, readUp}
+use Rattle.fields.specs.Shared.{ofSI, siNumber, codeFor, shortReply, drawn}
+use Rattle.fields.specs.declared.answers.Draws.{Draws}
+use Rattle.fields.specs.declared.answers.Draws.the-variants.{Format, Nothing}
+use Rattle.fields.specs.declared.answers.Interrogator.the-variants.{II, SI, Nobody}
 use Rattle.transponder.specs.declared.state.Holder.{Holder}
 use Rattle.transponder.specs.declared.state.Holder.the-variants as holder
 use Rattle.transponder.specs.declared.state.Messages.{Messages}

@@ -10,8 +10,8 @@ use borrow.Author.Tests.{eqb-true, eqb-false, ne-eqb, leb-true, leb-false}
 use lib.ListN.{length, getD, length-set, List·getD-map}
 use lib.Seq.{getD-set-same, getD-set-other, set-out}
 use Rattle.lists.specs.Lists.{pick}
-use Rattle.frames.specs.declared.answers.Interrogator.{Interrogator}
-use Rattle.frames.specs.declared.answers.Interrogator.the-variants.{II, SI, Nobody}
+use Rattle.fields.specs.declared.answers.Interrogator.{Interrogator}
+use Rattle.fields.specs.declared.answers.Interrogator.the-variants.{II, SI, Nobody}
 use Rattle.transponder.specs.declared.state.Lock.the-variants.{Never, Since}
 use Rattle.transponder.specs.declared.state.Timers.{Timers}
 use Rattle.transponder.specs.declared.state.Transponder.{Transponder}

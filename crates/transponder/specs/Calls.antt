@@ -8,9 +8,9 @@ use lib.ListN.{length, getD, replicate}
 use Rattle.lists.specs.Lists.{pick}
 use Rattle.parity.specs.Messages.{whole}
 use Rattle.parity.specs.Overlays.{overlayOf}
-use Rattle.frames.specs.Building.{anAddress}
-use Rattle.frames.specs.Bytes.{numberOf}
-use Rattle.frames.specs.Reading.{readUp}
+use Rattle.fields.specs.Building.{anAddress}
+use Rattle.fields.specs.Bytes.{numberOf}
+use Rattle.fields.specs.Reading.{readUp}
 use Rattle.transponder.specs.declared.state.Holder.the-variants.{Nobody}
 use Rattle.transponder.specs.declared.state.Transponder.{Transponder}
 use Rattle.transponder.specs.declared.state.Made.{Made}

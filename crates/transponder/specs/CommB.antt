@@ -3,7 +3,7 @@ use Prim.Native.Nat.{ℕ}
 use mathlib.Core.Bool.{Bool, true, _&&_}
 use lib.Dec.{eqb, leb}
 use Rattle.lists.specs.Lists.{pick}
-use Rattle.frames.specs.Fields.{bitsTo, valueAt}
+use Rattle.fields.specs.Fields.{bitsTo, valueAt}
 use Rattle.transponder.specs.declared.state.Holder.{Holder}
 use Rattle.transponder.specs.declared.state.Holder.the-variants.{Nobody, Held}
 use Rattle.transponder.specs.declared.state.Transponder.{Transponder}

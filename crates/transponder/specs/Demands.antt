@@ -6,11 +6,11 @@ use mathlib.Core.Bool.{true, _||_}
 use mathlib.Core.List.{List, [], _∷_}
 use lib.Dec.{eqb}
 use Rattle.lists.specs.Lists.{pick}
-use Rattle.frames.specs.Building.{aReply, anAllCallReply}
-use Rattle.frames.specs.Reading.{readUp}
-use Rattle.frames.specs.Shared.{drawn}
-use Rattle.frames.specs.declared.answers.Draws.the-variants.{Format}
-use Rattle.frames.specs.declared.answers.Interrogator.{Interrogator}
+use Rattle.fields.specs.Building.{aReply, anAllCallReply}
+use Rattle.fields.specs.Reading.{readUp}
+use Rattle.fields.specs.Shared.{drawn}
+use Rattle.fields.specs.declared.answers.Draws.the-variants.{Format}
+use Rattle.fields.specs.declared.answers.Interrogator.{Interrogator}
 use Rattle.transponder.specs.declared.state.Sent.{Sent}
 use Rattle.transponder.specs.declared.state.Took.{Took}
 use Rattle.transponder.specs.declared.state.Transponder.{Transponder}

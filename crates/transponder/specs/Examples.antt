@@ -5,9 +5,9 @@ use native.Mathlib.Omega.{arith}
 use mathlib.Core.List.{List, [], _∷_, _++_}
 use lib.ListN.{getD, take, replicate}
 use Rattle.lists.specs.Listing.{Row, row}
-use Rattle.frames.specs.Building as frames
-use Rattle.frames.specs.Fields.{bitsTo, laid}
-use Rattle.frames.specs.Reading.{readDown}
+use Rattle.fields.specs.Building as frames
+use Rattle.fields.specs.Fields.{bitsTo, laid}
+use Rattle.fields.specs.Reading.{readDown}
 use Rattle.transponder.specs.Calls.{queuing, taking}
 use Rattle.transponder.specs.History as history
 use Rattle.transponder.specs.History.{Aircraft, Call, after}

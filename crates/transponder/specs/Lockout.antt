@@ -5,9 +5,9 @@ use mathlib.Core.Bool.{Bool, true, false, _||_}
 use lib.Dec.{eqb}
 use lib.ListN.{getD}
 use Rattle.lists.specs.Lists.{pick}
-use Rattle.frames.specs.Fields.{bitsTo, valueAt}
-use Rattle.frames.specs.declared.answers.Interrogator.{Interrogator}
-use Rattle.frames.specs.declared.answers.Interrogator.the-variants.{II, SI, Nobody}
+use Rattle.fields.specs.Fields.{bitsTo, valueAt}
+use Rattle.fields.specs.declared.answers.Interrogator.{Interrogator}
+use Rattle.fields.specs.declared.answers.Interrogator.the-variants.{II, SI, Nobody}
 use Rattle.transponder.specs.declared.state.Lock.{Lock}
 use Rattle.transponder.specs.declared.state.Lock.the-variants.{Never, Since}
 use Rattle.transponder.specs.declared.state.Timers.{Timers}

@@ -6,7 +6,7 @@ use lib.ListN.{length}
 use lib.Dec.{eqb, leb, ltb}
 use Rattle.lists.specs.Checks.{Check, check}
 use Rattle.parity.specs.Messages.{whole}
-use Rattle.frames.specs.Building.{anAddress}
+use Rattle.fields.specs.Building.{anAddress}
 use Rattle.transponder.specs.declared.state.Transponder.{Transponder}
 use Rattle.transponder.specs.State.{waiting}
 use Rattle.transponder.specs.History.{Aircraft, Call, queue, take}

@@ -6,16 +6,16 @@ use mathlib.Core.List.{List}
 use lib.Dec.{eqb, leb, ltb}
 use lib.ListN.{length, replicate}
 use Rattle.lists.specs.Lists.{pick, over}
-use Rattle.frames.specs.Fields.{bitsTo, valueAt}
-use Rattle.frames.specs.Answers.{Outcome}
-use Rattle.frames.specs.Building.{replying, allCallReplying}
-use Rattle.frames.specs.Shared.{codeFor}
-use Rattle.frames.specs.Formats.{lengthOf}
-use Rattle.frames.specs.Shared.{drawn}
-use Rattle.frames.specs.declared.answers.Interrogator.{Interrogator}
-use Rattle.frames.specs.declared.answers.Interrogator.the-variants as code
-use Rattle.frames.specs.declared.answers.Draws.{Draws}
-use Rattle.frames.specs.declared.answers.Draws.the-variants.{Format, Nothing}
+use Rattle.fields.specs.Fields.{bitsTo, valueAt}
+use Rattle.fields.specs.Answers.{Outcome}
+use Rattle.fields.specs.Building.{replying, allCallReplying}
+use Rattle.fields.specs.Shared.{codeFor}
+use Rattle.fields.specs.Formats.{lengthOf}
+use Rattle.fields.specs.Shared.{drawn}
+use Rattle.fields.specs.declared.answers.Interrogator.{Interrogator}
+use Rattle.fields.specs.declared.answers.Interrogator.the-variants as code
+use Rattle.fields.specs.declared.answers.Draws.{Draws}
+use Rattle.fields.specs.declared.answers.Draws.the-variants.{Format, Nothing}
 use Rattle.transponder.specs.declared.state.Holder.{Holder}
 use Rattle.transponder.specs.declared.state.Holder.the-variants.{Nobody, Held}
 use Rattle.transponder.specs.declared.state.Messages.{Messages}

@@ -6,9 +6,9 @@ use mathlib.Core.List.{List, [], _∷_}
 use lib.Dec.{eqb, ltb}
 use lib.ListN.{length, getD}
 use Rattle.lists.specs.Lists.{pick}
-use Rattle.frames.specs.Reading.{readUp}
-use Rattle.frames.specs.declared.answers.Interrogator.{Interrogator}
-use Rattle.frames.specs.declared.answers.Interrogator.the-variants.{II, SI, Nobody}
+use Rattle.fields.specs.Reading.{readUp}
+use Rattle.fields.specs.declared.answers.Interrogator.{Interrogator}
+use Rattle.fields.specs.declared.answers.Interrogator.the-variants.{II, SI, Nobody}
 use Rattle.transponder.specs.declared.state.Lock.{Lock}
 use Rattle.transponder.specs.declared.state.Lock.the-variants.{Never, Since}
 use Rattle.transponder.specs.Lockout.{commandOfPC, commandOfSD}

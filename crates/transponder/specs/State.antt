@@ -6,8 +6,8 @@ use mathlib.Core.List.{List, [], _∷_, _++_}
 use lib.Dec.{eqb}
 use lib.ListN.{length, take, drop, set, getD}
 use Rattle.lists.specs.Lists.{pick, over}
-use Rattle.frames.specs.declared.answers.Interrogator.{Interrogator}
-use Rattle.frames.specs.declared.answers.Interrogator.the-variants.{II, SI, Nobody}
+use Rattle.fields.specs.declared.answers.Interrogator.{Interrogator}
+use Rattle.fields.specs.declared.answers.Interrogator.the-variants.{II, SI, Nobody}
 use Rattle.transponder.specs.declared.state.Lock.the-variants.{Never, Since}
 use Rattle.transponder.specs.declared.state.Timer.{Timer}
 use Rattle.transponder.specs.declared.state.Timers.{Timers}

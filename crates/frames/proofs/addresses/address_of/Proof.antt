@@ -2,8 +2,8 @@
 -- Assumes nothing.
 use mathlib.Core.Path.{ap}
 use borrow.Author.Tests.{le-ltb, lt-ltb}
-use Rattle.frames.specs.Addresses.{addressOf}
-use Rattle.frames.specs.declared.answers.Address.the-variants.{Is}
+use Rattle.fields.specs.Addresses.{addressOf}
+use Rattle.fields.specs.declared.answers.Address.the-variants.{Is}
 use borrow.Author.Needs.{needs}
 use Rattle.frames.proofs.addresses.address_of.Statement.{statement}
 use Rattle.frames.proofs.addresses.address_of.Tie as tie

@@ -4,8 +4,8 @@ use mathlib.Core.Path.{_≡_, refl, _∙_}
 use Prim.Native.Nat.{_-_, _^_, _<_, _≤_}
 use native.Mathlib.Omega.{arith}
 use Rattle.lists.specs.Lists.{spelled}
-use Rattle.frames.specs.Addresses.{quotientBits, quotientOf}
-use Rattle.frames.proofs.Quotient.{step-lt, quotient-turn, quotient-grows, quotient-fits}
+use Rattle.fields.specs.Addresses.{quotientBits, quotientOf}
+use Rattle.fields.proofs.Quotient.{step-lt, quotient-turn, quotient-grows, quotient-fits}
 use Rattle.frames.proofs.addresses.quotient.Statement.{statement}
 use Rattle.frames.proofs.addresses.quotient.Tie as tie
 

@@ -5,9 +5,9 @@ use mathlib.Core.Bool.{true}
 use native.Mathlib.Omega.{arith}
 use borrow.Author.Tests.{eq-eqb, ne-eqb, not-true, not-false}
 use Rattle.parity.specs.Messages.{whole}
-use Rattle.frames.specs.Answers.{written}
-use Rattle.frames.specs.Building.{allCallRanged, allCalling}
-use Rattle.frames.proofs.Ranges.{all-call-in, all-call-is}
+use Rattle.fields.specs.Answers.{written}
+use Rattle.fields.specs.Building.{allCallRanged, allCalling}
+use Rattle.fields.proofs.Ranges.{all-call-in, all-call-is}
 use borrow.Author.Needs.{needs}
 use Rattle.frames.proofs.builders.all_call.Statement.{statement}
 use Rattle.frames.proofs.builders.all_call.Tie as tie

@@ -7,11 +7,11 @@ use native.Mathlib.Omega.{arith}
 use lib.ListN.{length}
 use borrow.Author.Tests.{eq-eqb, ne-eqb, not-true, not-false}
 use Rattle.parity.specs.Messages.{whole}
-use Rattle.frames.specs.Answers.{written}
-use Rattle.frames.specs.Bytes.{numberOf}
-use Rattle.frames.specs.Formats.{surveillance, lengthOf}
-use Rattle.frames.specs.Building.{selectiveRanged, building}
-use Rattle.frames.proofs.Ranges.{InSelective, surveillance-lt, whole-format, selective-in, selective-is}
+use Rattle.fields.specs.Answers.{written}
+use Rattle.fields.specs.Bytes.{numberOf}
+use Rattle.fields.specs.Formats.{surveillance, lengthOf}
+use Rattle.fields.specs.Building.{selectiveRanged, building}
+use Rattle.fields.proofs.Ranges.{InSelective, surveillance-lt, whole-format, selective-in, selective-is}
 use borrow.Author.Needs.{needs}
 use Rattle.frames.proofs.builders.build.Statement.{statement}
 use Rattle.frames.proofs.builders.build.Tie as tie

@@ -2,7 +2,7 @@
 -- Assumes nothing.
 use mathlib.Core.Path.{sym, _∙_}
 use borrow.Author.Tests.{le-leb, lt-leb, eq-eqb, ne-eqb, not-true, not-false}
-use Rattle.frames.specs.Building.{selectiveRanged}
+use Rattle.fields.specs.Building.{selectiveRanged}
 use borrow.Author.Needs.{needs}
 use Rattle.frames.proofs.builders.selective_ranged.Statement.{statement}
 use Rattle.frames.proofs.builders.selective_ranged.Tie as tie

@@ -5,8 +5,8 @@ use mathlib.Core.List.{[]}
 use Prim.Native.Nat.{_-_, _*_, _^_, _<_, _≤_}
 use native.Mathlib.Omega.{arith}
 use lib.ListN.{length, drop, drop-of-length-le}
-use Rattle.frames.specs.Bytes.{followed}
-use Rattle.frames.proofs.Numbers.{byte-on, turn, room}
+use Rattle.fields.specs.Bytes.{followed}
+use Rattle.fields.proofs.Numbers.{byte-on, turn, room}
 use Rattle.frames.proofs.bytes.number_of.Statement.{statement}
 use Rattle.frames.proofs.bytes.number_of.Tie as tie
 

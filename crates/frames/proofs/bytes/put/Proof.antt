@@ -5,8 +5,8 @@ use Prim.Native.Nat.{_+_, _-_, _≤_}
 use native.Mathlib.Omega.{arith}
 use lib.ListN.{length, length-set}
 use lib.Seq.{sets}
-use Rattle.frames.specs.Bytes.{bytesOf}
-use Rattle.frames.proofs.Numbers.{put-turn}
+use Rattle.fields.specs.Bytes.{bytesOf}
+use Rattle.fields.proofs.Numbers.{put-turn}
 use borrow.Author.Needs.{needs}
 use Rattle.frames.proofs.bytes.put.Statement.{statement}
 use Rattle.frames.proofs.bytes.put.Tie as tie

@@ -6,7 +6,7 @@ use native.Mathlib.Omega.{arith}
 use lib.Dec.{leb}
 use borrow.Author.Tests.{leb-true, le-leb, lt-leb, eq-eqb, ne-eqb, not-true, not-false}
 use Rattle.lists.proofs.Tests.{and-true}
-use Rattle.frames.specs.Shared.{codeFor}
+use Rattle.fields.specs.Shared.{codeFor}
 use borrow.Author.Needs.{needs}
 use Rattle.frames.proofs.codes.code_for.Statement.{statement}
 use Rattle.frames.proofs.codes.code_for.Tie as tie

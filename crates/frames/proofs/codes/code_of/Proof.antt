@@ -7,11 +7,11 @@ use native.Mathlib.Omega.{arith}
 use lib.ListN.{length}
 use borrow.Author.Tests.{not-true, not-false}
 use Rattle.parity.specs.Messages.{whole}
-use Rattle.frames.specs.Answers.{done}
-use Rattle.frames.specs.Fields.{valueAt, atDF}
-use Rattle.frames.specs.Codes.{stationRanged, whose}
-use Rattle.frames.proofs.Ranges.{station-in}
-use Rattle.frames.proofs.Judging.{code-length, code-range, code-long, code-format, code-whose}
+use Rattle.fields.specs.Answers.{done}
+use Rattle.fields.specs.Fields.{valueAt, atDF}
+use Rattle.fields.specs.Codes.{stationRanged, whose}
+use Rattle.fields.proofs.Ranges.{station-in}
+use Rattle.fields.proofs.Judging.{code-length, code-range, code-long, code-format, code-whose}
 use borrow.Author.Needs.{needs}
 use Rattle.frames.proofs.codes.code_of.Statement.{statement}
 use Rattle.frames.proofs.codes.code_of.Tie as tie

@@ -3,7 +3,7 @@
 use mathlib.Core.Path.{sym, _∙_}
 use native.Mathlib.Nat.{zero-add}
 use borrow.Author.Tests.{eq-eqb, ne-eqb, not-true, not-false}
-use Rattle.frames.specs.Codes.{whose}
+use Rattle.fields.specs.Codes.{whose}
 use borrow.Author.Needs.{needs}
 use Rattle.frames.proofs.codes.whose_code.Statement.{statement}
 use Rattle.frames.proofs.codes.whose_code.Tie as tie

@@ -4,8 +4,8 @@ use mathlib.Core.Path.{sym, ap, _∙_}
 use Prim.Native.Nat.{ℕ, _+_}
 use native.Mathlib.Omega.{arith}
 use borrow.Author.Tests.{le-leb, lt-leb, not-true, not-false}
-use Rattle.frames.specs.Shared.{drawn}
-use Rattle.frames.specs.declared.answers.Draws.the-variants.{Format}
+use Rattle.fields.specs.Shared.{drawn}
+use Rattle.fields.specs.declared.answers.Draws.the-variants.{Format}
 use borrow.Author.Needs.{needs}
 use Rattle.frames.proofs.formats.drawn.Statement.{statement}
 use Rattle.frames.proofs.formats.drawn.Tie as tie

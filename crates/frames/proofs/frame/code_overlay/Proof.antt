@@ -2,7 +2,7 @@
 -- Assumes nothing.
 use native.Mathlib.Omega.{arith}
 use Rattle.parity.proofs.Laws.{code-is}
-use Rattle.frames.proofs.Told.{the-value, no-length, no-range}
+use Rattle.fields.proofs.Told.{the-value, no-length, no-range}
 use borrow.Author.Needs.{needs}
 use Rattle.frames.proofs.frame.code_overlay.Statement.{statement}
 use Rattle.frames.proofs.frame.code_overlay.Tie as tie

@@ -6,8 +6,8 @@ use Prim.Native.Nat.{ℕ}
 use native.Mathlib.Omega.{arith}
 use lib.ListN.{length}
 use lib.Seq.{sets, length-sets}
-use Rattle.frames.specs.Bytes.{bytesOf}
-use Rattle.frames.proofs.Laying.{whole-least, fill-short, fill-long}
+use Rattle.fields.specs.Bytes.{bytesOf}
+use Rattle.fields.proofs.Laying.{whole-least, fill-short, fill-long}
 use borrow.Author.Needs.{needs}
 use Rattle.frames.proofs.frame.fill.Statement.{statement}
 use Rattle.frames.proofs.frame.fill.Tie as tie

@@ -7,8 +7,8 @@ use lib.Bits.{xor-lt}
 use lib.ListN.{length}
 use lib.Seq.{length-sets}
 use Rattle.parity.specs.Messages.{whole}
-use Rattle.frames.specs.Bytes.{bytesOf}
-use Rattle.frames.proofs.Laying.{whole-least, seal-law}
+use Rattle.fields.specs.Bytes.{bytesOf}
+use Rattle.fields.proofs.Laying.{whole-least, seal-law}
 use borrow.Author.Needs.{needs}
 use Rattle.frames.proofs.frame.seal.Statement.{statement}
 use Rattle.frames.proofs.frame.seal.Tie as tie

@@ -2,7 +2,7 @@
 -- Assumes nothing.
 use mathlib.Core.Path.{ap, _∙_}
 use Rattle.parity.specs.Messages.{whole}
-use Rattle.frames.proofs.Laying.{filled-length, write-law}
+use Rattle.fields.proofs.Laying.{filled-length, write-law}
 use borrow.Author.Needs.{needs}
 use Rattle.frames.proofs.frame.write.Statement.{statement}
 use Rattle.frames.proofs.frame.write.Tie as tie

@@ -4,8 +4,8 @@ use mathlib.Core.Path.{_≡_}
 use native.Mathlib.Omega.{arith}
 use lib.ListN.{length, take}
 use lib.Seq.{length-take-le}
-use Rattle.frames.proofs.Laying.{whole-least}
-use Rattle.frames.specs.Fields.{headOf}
+use Rattle.fields.proofs.Laying.{whole-least}
+use Rattle.fields.specs.Fields.{headOf}
 use borrow.Author.Needs.{needs}
 use Rattle.frames.proofs.message.head_of.Statement.{statement}
 use Rattle.frames.proofs.message.head_of.Tie as tie

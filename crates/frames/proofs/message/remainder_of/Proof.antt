@@ -2,7 +2,7 @@
 -- Assumes nothing.
 use native.Mathlib.Omega.{arith}
 use Rattle.parity.proofs.Laws.{remainder-is, remainder-lt}
-use Rattle.frames.proofs.Told.{the-value, no-length, no-range}
+use Rattle.fields.proofs.Told.{the-value, no-length, no-range}
 use borrow.Author.Needs.{needs}
 use Rattle.frames.proofs.message.remainder_of.Statement.{statement}
 use Rattle.frames.proofs.message.remainder_of.Tie as tie

@@ -3,7 +3,7 @@
 use mathlib.Core.Path.{_≡_}
 use Prim.Native.Nat.{_/_}
 use native.Mathlib.Omega.{arith}
-use Rattle.frames.specs.Reading.{allCallReplyRead}
+use Rattle.fields.specs.Reading.{allCallReplyRead}
 use borrow.Author.Needs.{needs}
 use Rattle.frames.proofs.read.all_call_reply.Statement.{statement}
 use Rattle.frames.proofs.read.all_call_reply.Tie as tie

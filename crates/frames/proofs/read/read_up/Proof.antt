@@ -6,10 +6,10 @@ use Prim.Native.Nat.{ℕ}
 use lib.ListN.{length}
 use borrow.Author.Tests.{not-true, not-false}
 use Rattle.parity.specs.Messages.{whole}
-use Rattle.frames.specs.Fields.{valueAt, atUF}
-use Rattle.frames.specs.Formats.{listed}
-use Rattle.frames.specs.Reading.{formatOf, allCallRead, selectiveRead}
-use Rattle.frames.proofs.Judging.{reads-length, reads-format, reads-eleven, reads-others, same}
+use Rattle.fields.specs.Fields.{valueAt, atUF}
+use Rattle.fields.specs.Formats.{listed}
+use Rattle.fields.specs.Reading.{formatOf, allCallRead, selectiveRead}
+use Rattle.fields.proofs.Judging.{reads-length, reads-format, reads-eleven, reads-others, same}
 use borrow.Author.Needs.{needs}
 use Rattle.frames.proofs.read.read_up.Statement.{statement}
 use Rattle.frames.proofs.read.read_up.Tie as tie

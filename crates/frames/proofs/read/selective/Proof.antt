@@ -3,7 +3,7 @@
 use mathlib.Core.Path.{_≡_}
 use Prim.Native.Nat.{_/_}
 use native.Mathlib.Omega.{arith}
-use Rattle.frames.specs.Reading.{selectiveRead}
+use Rattle.fields.specs.Reading.{selectiveRead}
 use borrow.Author.Needs.{needs}
 use Rattle.frames.proofs.read.selective.Statement.{statement}
 use Rattle.frames.proofs.read.selective.Tie as tie

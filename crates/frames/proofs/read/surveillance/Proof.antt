@@ -3,7 +3,7 @@
 use mathlib.Core.Path.{_≡_}
 use Prim.Native.Nat.{_/_}
 use native.Mathlib.Omega.{arith}
-use Rattle.frames.specs.Reading.{surveillanceRead}
+use Rattle.fields.specs.Reading.{surveillanceRead}
 use borrow.Author.Needs.{needs}
 use Rattle.frames.proofs.read.surveillance.Statement.{statement}
 use Rattle.frames.proofs.read.surveillance.Tie as tie

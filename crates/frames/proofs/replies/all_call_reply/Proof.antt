@@ -5,9 +5,9 @@ use mathlib.Core.Bool.{true}
 use native.Mathlib.Omega.{arith}
 use borrow.Author.Tests.{eq-eqb, ne-eqb, not-true, not-false}
 use Rattle.parity.specs.Messages.{whole}
-use Rattle.frames.specs.Answers.{written}
-use Rattle.frames.specs.Building.{allCallReplyRanged, allCallReplying}
-use Rattle.frames.proofs.Ranges.{all-call-reply-in, all-call-reply-is}
+use Rattle.fields.specs.Answers.{written}
+use Rattle.fields.specs.Building.{allCallReplyRanged, allCallReplying}
+use Rattle.fields.proofs.Ranges.{all-call-reply-in, all-call-reply-is}
 use borrow.Author.Needs.{needs}
 use Rattle.frames.proofs.replies.all_call_reply.Statement.{statement}
 use Rattle.frames.proofs.replies.all_call_reply.Tie as tie

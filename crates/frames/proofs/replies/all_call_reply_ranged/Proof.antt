@@ -2,7 +2,7 @@
 -- Assumes nothing.
 use mathlib.Core.Path.{sym, _∙_}
 use borrow.Author.Tests.{le-leb, lt-leb, not-true, not-false}
-use Rattle.frames.specs.Building.{allCallReplyRanged}
+use Rattle.fields.specs.Building.{allCallReplyRanged}
 use borrow.Author.Needs.{needs}
 use Rattle.frames.proofs.replies.all_call_reply_ranged.Statement.{statement}
 use Rattle.frames.proofs.replies.all_call_reply_ranged.Tie as tie

@@ -6,10 +6,10 @@ use native.Mathlib.Omega.{arith}
 use lib.ListN.{length}
 use borrow.Author.Tests.{eq-eqb, ne-eqb, not-true, not-false}
 use Rattle.parity.specs.Messages.{whole}
-use Rattle.frames.specs.Answers.{written}
-use Rattle.frames.specs.Formats.{surveillance, lengthOf}
-use Rattle.frames.specs.Building.{replyRanged, replying}
-use Rattle.frames.proofs.Ranges.{InReply, surveillance-lt, whole-format, reply-in, reply-is}
+use Rattle.fields.specs.Answers.{written}
+use Rattle.fields.specs.Formats.{surveillance, lengthOf}
+use Rattle.fields.specs.Building.{replyRanged, replying}
+use Rattle.fields.proofs.Ranges.{InReply, surveillance-lt, whole-format, reply-in, reply-is}
 use borrow.Author.Needs.{needs}
 use Rattle.frames.proofs.replies.reply.Statement.{statement}
 use Rattle.frames.proofs.replies.reply.Tie as tie

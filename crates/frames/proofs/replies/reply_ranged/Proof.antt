@@ -2,7 +2,7 @@
 -- Assumes nothing.
 use mathlib.Core.Path.{sym, _∙_}
 use borrow.Author.Tests.{le-leb, lt-leb, eq-eqb, ne-eqb, not-true, not-false}
-use Rattle.frames.specs.Building.{replyRanged}
+use Rattle.fields.specs.Building.{replyRanged}
 use borrow.Author.Needs.{needs}
 use Rattle.frames.proofs.replies.reply_ranged.Statement.{statement}
 use Rattle.frames.proofs.replies.reply_ranged.Tie as tie

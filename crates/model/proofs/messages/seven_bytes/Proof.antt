@@ -5,8 +5,8 @@ use native.Mathlib.Omega.{arith}
 use Prim.Native.Nat.{_-_, _*_, _^_, _<_, _≤_}
 use lib.ListN.{drop, drop-of-length-le}
 use mathlib.Core.List.{[]}
-use Rattle.frames.specs.Bytes.{followed}
-use Rattle.frames.proofs.Numbers.{byte-on, turn, room}
+use Rattle.fields.specs.Bytes.{followed}
+use Rattle.fields.proofs.Numbers.{byte-on, turn, room}
 use Rattle.model.proofs.messages.seven_bytes.Statement.{statement}
 use Rattle.model.proofs.messages.seven_bytes.Tie as tie
 

@@ -3,8 +3,8 @@
 use mathlib.Core.Path.{_≡_, sym, ap, _∙_}
 use mathlib.Core.Bool.{true, false}
 use borrow.Author.Tests.{le-leb, lt-leb, not-true, not-false}
-use Rattle.frames.specs.Formats.{surveillance}
-use Rattle.frames.specs.Building.{selectiveRanged}
+use Rattle.fields.specs.Formats.{surveillance}
+use Rattle.fields.specs.Building.{selectiveRanged}
 use Rattle.histories.specs.Calls.{requestRanged}
 use borrow.Author.Needs.{needs}
 use Rattle.station.proofs.ranges.request_ranged.Statement.{statement}

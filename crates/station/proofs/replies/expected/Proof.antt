@@ -1,7 +1,7 @@
 -- `station::replies::expected` meets its contract: by what the request draws.
 -- Assumes nothing.
 use mathlib.Core.Path.{_≡_, sym, ap, _∙_}
-use Rattle.frames.specs.Shared.{drawn}
+use Rattle.fields.specs.Shared.{drawn}
 use Rattle.histories.specs.Replies.{formatIn, expected}
 use borrow.Author.Needs.{needs}
 use Rattle.station.proofs.replies.expected.Statement.{statement}

@@ -2,7 +2,7 @@
 -- Assumes nothing.
 use mathlib.Core.Path.{sym, ap, _∙_}
 use borrow.Author.Tests.{not-true, not-false}
-use Rattle.frames.specs.Formats.{lengthOf}
+use Rattle.fields.specs.Formats.{lengthOf}
 use Rattle.histories.specs.declared.state.Reply.{Reply}
 use Rattle.histories.specs.Replies.{told}
 use Rattle.station.proofs.Checks.{reply-1, reply-7, reply-8, reply-9, reply-10, reply-rest}

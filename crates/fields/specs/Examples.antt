@@ -1,0 +1,84 @@
+-- Published frames and codes at the edges, as one listing: what the definitions give beside what was published of each, or what document 01 says.
+-- Assumes nothing.
+use Prim.Native.Nat.{ℕ}
+use mathlib.Core.Path.{refl}
+use mathlib.Core.List.{List, [], _∷_}
+use lib.ListN.{replicate}
+use Rattle.lists.specs.Listing.{Row, row, Agrees}
+use Rattle.parity.specs.Messages.{bits}
+use Rattle.parity.specs.Division.{shiftIn, divide, remainderOf}
+use Rattle.fields.specs.Fields.{headOf, midOf}
+use Rattle.fields.specs.declared.answers.Draws.{Draws}
+use Rattle.fields.specs.declared.answers.Draws.the-variants.{Format, Nothing}
+use Rattle.fields.specs.declared.answers.Interrogator.{Interrogator}
+use Rattle.fields.specs.declared.answers.Interrogator.the-variants.{II, SI, Nobody}
+use Rattle.fields.specs.Building.{building}
+use Rattle.fields.specs.Reading.{readAs, readDown, surveillanceRead, allCallReplyRead, mbPart}
+use Rattle.fields.specs.Shared.{codeFor, drawn}
+use Rattle.fields.specs.Codes.{whose, codeOf}
+
+-- a reply read alone: its number, then its values
+abbrev read : List ℕ → List ℕ
+read m = let a = readDown m in a .number ∷ a .values
+
+-- whose code it carries, for CL, IC and permission: the number, then own 0, matching II 1, other 2
+abbrev coded : List ℕ → ℕ → ℕ → ℕ → List ℕ
+coded m cl ic permit = let a = codeOf m cl ic permit in a .number ∷ a .values
+
+-- a DF 11 for SI 6, and a squitter
+abbrev sixth : List ℕ
+sixth = 0x5D ∷ 0x48 ∷ 0x4F ∷ 0xDE ∷ 0xA2 ∷ 0x48 ∷ 0xF5 ∷ []
+
+abbrev squitter : List ℕ
+squitter = 0x5D ∷ 0x3C ∷ 0x66 ∷ 0x14 ∷ 0xC3 ∷ 0x15 ∷ 0xD2 ∷ []
+
+-- the code that CL and IC stand for: II n as 0 and n, SI n as 1 and n, nothing for nobody
+abbrev code : Interrogator → List ℕ
+code (II n) = 0 ∷ n ∷ []
+code (SI n) = 1 ∷ n ∷ []
+code Nobody = []
+
+-- the format that a request draws
+abbrev draws : Draws → List ℕ
+draws (Format f) = f ∷ []
+draws Nothing = []
+
+-- a builder's number, and what its buffer of seven nines then holds
+abbrev built : ℕ → List ℕ
+built uf = let o = building uf 0 0 0 0 (replicate 7 0) 1 (replicate 7 9) in o .number ∷ o .output
+
+-- the published frames with every field given, codes of two of them, the MB bytes of one, the codes and what is drawn at the edges, and a refusal
+abbrev pub listing : List Row
+listing =
+    row (read sixth) (0 ∷ 11 ∷ 5 ∷ 0x484FDE ∷ 0x16 ∷ [])
+    ∷ row (read squitter) (0 ∷ 11 ∷ 5 ∷ 0x3C6614 ∷ 0 ∷ [])
+    ∷ row (read (0x5D ∷ 0x4D ∷ 0x20 ∷ 0x23 ∷ 0x7A ∷ 0x55 ∷ 0xA6 ∷ [])) (0 ∷ 11 ∷ 5 ∷ 0x4D2023 ∷ 0 ∷ [])
+    ∷ row (read (0x20 ∷ 0x00 ∷ 0x17 ∷ 0x18 ∷ 0x02 ∷ 0x9F ∷ 0xCD ∷ [])) (0 ∷ 4 ∷ 0 ∷ 0 ∷ 0 ∷ 0x1718 ∷ 0 ∷ 0x4891A6 ∷ [])
+    ∷ row (read (0x2A ∷ 0x00 ∷ 0x51 ∷ 0x6D ∷ 0x49 ∷ 0x2B ∷ 0x80 ∷ [])) (0 ∷ 5 ∷ 2 ∷ 0 ∷ 2 ∷ 0x116D ∷ 0 ∷ 0x510AF9 ∷ [])
+    ∷ row (read (0xA0 ∷ 0x20 ∷ 0x14 ∷ 0xB4 ∷ 0x00 ∷ 0x00 ∷ 0x00 ∷ 0x00 ∷ 0x00 ∷ 0x00 ∷ 0x00 ∷ 0xF9 ∷ 0xD5 ∷ 0x14 ∷ [])) (0 ∷ 20 ∷ 0 ∷ 4 ∷ 0 ∷ 0x14B4 ∷ 0 ∷ 0x7582F7 ∷ [])
+    ∷ row (read (0xA8 ∷ 0x00 ∷ 0x29 ∷ 0x2D ∷ 0xFF ∷ 0xBB ∷ 0xA9 ∷ 0x38 ∷ 0x3F ∷ 0xFC ∷ 0xEB ∷ 0x90 ∷ 0x3D ∷ 0x01 ∷ [])) (0 ∷ 21 ∷ 0 ∷ 0 ∷ 1 ∷ 0x092D ∷ 0xFFBBA9383FFCEB ∷ 0xD9938E ∷ [])
+    ∷ row (read (0xA0 ∷ 0x00 ∷ 0x08 ∷ 0x3E ∷ 0x20 ∷ 0x2C ∷ 0xC3 ∷ 0x71 ∷ 0xC3 ∷ 0x1D ∷ 0xE0 ∷ 0xAA ∷ 0x1C ∷ 0xCF ∷ [])) (0 ∷ 20 ∷ 0 ∷ 0 ∷ 0 ∷ 0x083E ∷ 0x202CC371C31DE0 ∷ 0x484163 ∷ [])
+    ∷ row (read (0xA0 ∷ 0x00 ∷ 0x18 ∷ 0x38 ∷ 0x20 ∷ 0x15 ∷ 0x84 ∷ 0xF2 ∷ 0x34 ∷ 0x68 ∷ 0x20 ∷ 0x7C ∷ 0xDF ∷ 0xA5 ∷ [])) (0 ∷ 20 ∷ 0 ∷ 0 ∷ 0 ∷ 0x1838 ∷ 0x201584F2346820 ∷ 0x40655A ∷ [])
+    ∷ row (read (0x8D ∷ 0x40 ∷ 0x6B ∷ 0x90 ∷ 0x20 ∷ 0x15 ∷ 0xA6 ∷ 0x78 ∷ 0xD4 ∷ 0xD2 ∷ 0x20 ∷ 0xAA ∷ 0x4B ∷ 0xDA ∷ [])) (14 ∷ [])
+    ∷ row (coded sixth 1 6 0) (0 ∷ 0 ∷ [])
+    ∷ row (coded sixth 0 6 0) (0 ∷ 2 ∷ [])
+    ∷ row (coded squitter 0 0 0) (0 ∷ 0 ∷ [])
+    ∷ row (coded squitter 2 0 1) (0 ∷ 2 ∷ [])
+    ∷ row (mbPart (0xA0 ∷ 0x00 ∷ 0x08 ∷ 0x3E ∷ 0x20 ∷ 0x2C ∷ 0xC3 ∷ 0x71 ∷ 0xC3 ∷ 0x1D ∷ 0xE0 ∷ 0xAA ∷ 0x1C ∷ 0xCF ∷ [])) (0x20 ∷ 0x2C ∷ 0xC3 ∷ 0x71 ∷ 0xC3 ∷ 0x1D ∷ 0xE0 ∷ [])
+    ∷ row (mbPart squitter) []
+    ∷ row (code (codeFor 0 15)) (0 ∷ 15 ∷ [])
+    ∷ row (code (codeFor 1 6)) (1 ∷ 6 ∷ [])
+    ∷ row (code (codeFor 4 15)) (1 ∷ 63 ∷ [])
+    ∷ row (code (codeFor 1 0)) []
+    ∷ row (code (codeFor 5 3)) []
+    ∷ row (draws (drawn 4 15)) (4 ∷ [])
+    ∷ row (draws (drawn 4 16)) (20 ∷ [])
+    ∷ row (draws (drawn 21 31)) (21 ∷ [])
+    ∷ row (draws (drawn 11 0)) []
+    ∷ row (built 6) (2 ∷ replicate 7 9)
+    ∷ []
+
+-- the one claim
+pub listing-agrees : Agrees listing
+unfolding bits shiftIn divide remainderOf headOf midOf readAs surveillanceRead allCallReplyRead whose codeOf codeFor drawn building
+listing-agrees = (refl, (refl, (refl, (refl, (refl, (refl, (refl, (refl, (refl, (refl, (refl, (refl, (refl, (refl, (refl, (refl, (refl, (refl, (refl, (refl, (refl, (refl, (refl, (refl, (refl, (refl, tt))))))))))))))))))))))))))
