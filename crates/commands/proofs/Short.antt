@@ -21,12 +21,12 @@ use Rattle.text.proofs.HexRead.{bytes-fit}
 use Rattle.altitude.specs.Code.{altitude}
 use Rattle.feet_lines.specs.Lines as feet-lines
 use Rattle.feet_lines.proofs.Run.{answer-short}
-use Rattle.parity.specs.Messages.{bits, whole}
-use Rattle.parity.specs.Answers.{Outcome, done, refusal}
-use Rattle.parity.specs.Division.{remainderOf, remainderAnswer}
-use Rattle.parity.specs.Overlays.{overlayOf, uplinkOverlay}
-use Rattle.parity.specs.Correction.{correction}
-use Rattle.parity.proofs.Sizes.{Small, outcome-small}
+use Rattle.remainders.specs.Messages.{bits, whole}
+use Rattle.remainders.specs.Answers.{Outcome, done, refusal}
+use Rattle.remainders.specs.Division.{remainderOf, remainderAnswer}
+use Rattle.remainders.specs.Overlays.{overlayOf, uplinkOverlay}
+use Rattle.remainders.specs.Correction.{correction}
+use Rattle.remainders.proofs.Sizes.{Small, outcome-small}
 use Rattle.fields.specs.Answers as frames
 use Rattle.fields.specs.Bytes.{bytesOf, numberOf}
 use Rattle.fields.specs.Formats.{longFormat, surveillance, lengthOf, listed}

@@ -6,10 +6,10 @@ use Rattle.text.specs.Put.{decimal}
 use Rattle.text.specs.Plain.{plain}
 use Rattle.text.specs.Number.{numberIn}
 use Rattle.text.specs.Hex.{hexIn, hexOf, bytesIn}
-use Rattle.parity.specs.Answers.{Answer, Outcome}
-use Rattle.parity.specs.Division.{remainderAnswer}
-use Rattle.parity.specs.Overlays.{uplinkOverlay}
-use Rattle.parity.specs.Correction.{correction}
+use Rattle.remainders.specs.Answers.{Answer, Outcome}
+use Rattle.remainders.specs.Division.{remainderAnswer}
+use Rattle.remainders.specs.Overlays.{uplinkOverlay}
+use Rattle.remainders.specs.Correction.{correction}
 use Rattle.commands.specs.Texts.{word, withNumber, withBytes, answerText}
 
 -- a remainder or an overlay has six digits

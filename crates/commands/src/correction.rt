@@ -3,7 +3,7 @@ ghost use mathlib.Core.Path.{_≡_};
 ghost use lib.ListN.{length, replicate};
 ghost use Rattle.text.specs.Put.{Put};
 ghost use Rattle.text.specs.Line.{wordsOf};
-ghost use Rattle.parity.specs.Answers.{said};
+ghost use Rattle.remainders.specs.Answers.{said};
 ghost use Rattle.commands.specs.Parity.{correctedText, fixedText, correctText};
 use crate::answers::put_refusal;
 use crate::answers::put_unread;

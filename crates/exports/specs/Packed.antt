@@ -3,8 +3,8 @@
 use Prim.Native.Nat.{ℕ, _+_, _*_, _/_, _%_}
 use mathlib.Core.List.{List}
 use mathlib.Core.Path.{_≡_}
-use Rattle.parity.specs.declared.answers.Fix.{Fix}
-use Rattle.parity.specs.Answers.{Answer, Outcome, numberOf, flipsOf}
+use Rattle.remainders.specs.declared.answers.Fix.{Fix}
+use Rattle.remainders.specs.Answers.{Answer, Outcome, numberOf, flipsOf}
 
 -- an answer's number and value
 abbrev pub packed : Answer → ℕ

@@ -13,11 +13,11 @@ use lib.ListN.{length}
 use lib.Pow.{high, mod-pow-add}
 use borrow.Author.Tests.{ltb-true, ltb-false, lt-ltb, le-ltb}
 use Rattle.lists.proofs.Xor.{xor-swap, xor-move}
-use Rattle.parity.specs.Messages.{AreBits}
+use Rattle.remainders.specs.Messages.{AreBits}
 use Rattle.lists.specs.Lists.{spelled}
-use Rattle.parity.specs.Division.{generator, shiftIn}
-use Rattle.parity.specs.Overlays.{lowBits, times, overlayOf}
-use Rattle.parity.proofs.Laws.{overlay-lt}
+use Rattle.remainders.specs.Division.{generator, shiftIn}
+use Rattle.remainders.specs.Overlays.{lowBits, times, overlayOf}
+use Rattle.remainders.proofs.Laws.{overlay-lt}
 use Rattle.fields.specs.declared.answers.Address.{Address}
 use Rattle.fields.specs.declared.answers.Address.the-variants.{Is, Nobody}
 use Rattle.fields.specs.Addresses.{quotientBits, quotientOf, addressOf}

@@ -6,8 +6,8 @@ use mathlib.Core.List.{List}
 use Prim.Native.Nat.{ℕ}
 use lib.ListN.{length}
 use borrow.Author.Tests.{eq-eqb, ne-eqb}
-use Rattle.parity.specs.Messages.{bits, whole}
-use Rattle.parity.specs.Division.{remainderOf}
+use Rattle.remainders.specs.Messages.{bits, whole}
+use Rattle.remainders.specs.Division.{remainderOf}
 use Rattle.fields.specs.Answers.{Answer, done, refusal}
 use Rattle.fields.specs.Fields.{headOf, midOf}
 use Rattle.fields.specs.Formats.{listed}

@@ -12,8 +12,8 @@ use lib.ListN.{length, take, drop, drop-of-length-le, length-append, length-drop
 use lib.Seq.{sets, sets-eq, length-sets, take-at, drop-drop, length-take-le}
 use borrow.Author.Tests.{eqb-true}
 use Rattle.lists.proofs.Tests.{or-true}
-use Rattle.parity.specs.Messages.{bits, whole}
-use Rattle.parity.specs.Division.{remainderOf}
+use Rattle.remainders.specs.Messages.{bits, whole}
+use Rattle.remainders.specs.Division.{remainderOf}
 use Rattle.fields.specs.Bytes.{bytesOf}
 use Rattle.fields.specs.Frames.{front, sealed, framed}
 

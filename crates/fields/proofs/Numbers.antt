@@ -10,7 +10,7 @@ use lib.ListN.{length, getD, set, drop}
 use lib.Arith.{digits-lt, digits-mod}
 use lib.Pow.{pow-add, pow-mono, mod-pow-add, high}
 use lib.Seq.{drop-cons, sets}
-use Rattle.parity.specs.Messages.{AreBytes}
+use Rattle.remainders.specs.Messages.{AreBytes}
 use Rattle.fields.specs.Bytes.{bytesOf, followed, numberOf}
 
 -- ---- reading: one byte on

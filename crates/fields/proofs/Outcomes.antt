@@ -11,10 +11,10 @@ use lib.ListN.{length}
 use borrow.Author.Tests.{eq-eqb, eqb-true}
 use Rattle.lists.specs.Lists.{pick}
 use Rattle.lists.proofs.Tests.{and-true}
-use Rattle.parity.specs.Messages.{bits, whole, AreBytes}
-use Rattle.parity.specs.Division.{remainderOf}
-use Rattle.parity.specs.Overlays.{overlayOf}
-use Rattle.parity.proofs.Laws.{overlay-lt}
+use Rattle.remainders.specs.Messages.{bits, whole, AreBytes}
+use Rattle.remainders.specs.Division.{remainderOf}
+use Rattle.remainders.specs.Overlays.{overlayOf}
+use Rattle.remainders.proofs.Laws.{overlay-lt}
 use Rattle.fields.specs.declared.answers.Built.{Built}
 use Rattle.fields.specs.declared.answers.Built.the-variants.{Done}
 use Rattle.fields.specs.Answers.{Answer, Outcome, done, said, numberOfBuilt, written, refused, own}

@@ -8,8 +8,8 @@ use native.Mathlib.Omega.{arith}
 use lib.Bits.{bitXor}
 use lib.Pow.{pow-mono}
 use Rattle.lists.specs.Lists.{spelled}
-use Rattle.parity.specs.Division.{generator, shiftIn}
-use Rattle.parity.proofs.Linear.{reduce-is, shift-lt}
+use Rattle.remainders.specs.Division.{generator, shiftIn}
+use Rattle.remainders.proofs.Linear.{reduce-is, shift-lt}
 use Rattle.fields.specs.Addresses.{quotientBits}
 
 -- one step of the division, as the code takes it

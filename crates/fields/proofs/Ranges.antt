@@ -10,8 +10,8 @@ use lib.Dec.{eqb, leb}
 use borrow.Author.Tests.{eqb-true, leb-true}
 use Rattle.lists.specs.Lists.{pick}
 use Rattle.lists.proofs.Tests.{and-true, or-true}
-use Rattle.parity.specs.Messages.{whole}
-use Rattle.parity.specs.Overlays.{overlayOf}
+use Rattle.remainders.specs.Messages.{whole}
+use Rattle.remainders.specs.Overlays.{overlayOf}
 use Rattle.fields.specs.Codes.{stationRanged}
 use Rattle.fields.specs.Shared.{codeNumber}
 use Rattle.fields.specs.Fields.{selectiveHead, allCallHead, replyHead, allCallReplyHead}

@@ -11,9 +11,9 @@ use lib.ListN.{length, getD}
 use borrow.Author.Tests.{eqb-true, eq-eqb, le-leb}
 use Rattle.lists.specs.Lists.{pick}
 use Rattle.lists.proofs.Tests.{and-true}
-use Rattle.parity.specs.Messages.{bits, whole, AreBytes}
-use Rattle.parity.specs.Division.{remainderOf}
-use Rattle.parity.specs.Overlays.{overlayOf}
+use Rattle.remainders.specs.Messages.{bits, whole, AreBytes}
+use Rattle.remainders.specs.Division.{remainderOf}
+use Rattle.remainders.specs.Overlays.{overlayOf}
 use Rattle.fields.specs.Answers.{Answer, done, refusal, written}
 use Rattle.fields.specs.Bytes.{numberOf}
 use Rattle.fields.specs.Fields.{headOf, midOf, valueAt, atUF, atPC, atRR, atDI, atSD, selectiveHead, allCallHead, replyHead, allCallReplyHead}

@@ -12,9 +12,9 @@ use lib.ListN.{length, take, drop, take-append-drop, length-drop}
 use lib.Seq.{length-take-le, take-add}
 use Rattle.lists.specs.Lists.{pick}
 use Rattle.lists.proofs.Xor.{xor-back}
-use Rattle.parity.specs.Messages.{bits, whole, AreBytes}
-use Rattle.parity.specs.Division.{remainderOf}
-use Rattle.parity.proofs.Laws.{parity-over, remainder-lt}
+use Rattle.remainders.specs.Messages.{bits, whole, AreBytes}
+use Rattle.remainders.specs.Division.{remainderOf}
+use Rattle.remainders.proofs.Laws.{parity-over, remainder-lt}
 use Rattle.fields.specs.Bytes.{bytesOf, numberOf}
 use Rattle.fields.specs.Fields.{headOf, midOf}
 use Rattle.fields.specs.Frames.{front, sealed, framed}

@@ -3,8 +3,8 @@
 use mathlib.Core.Path.{_≡_}
 use Prim.Native.Nat.{ℕ}
 use native.Mathlib.Omega.{arith}
-use Rattle.parity.specs.declared.answers.Reckoned.{Reckoned}
-use Rattle.parity.specs.declared.answers.Reckoned.the-variants.{Is, Length, Range}
+use Rattle.remainders.specs.declared.answers.Reckoned.{Reckoned}
+use Rattle.remainders.specs.declared.answers.Reckoned.the-variants.{Is, Length, Range}
 
 pub the-value : (x : Reckoned) (v w : ℕ) → x ≡ Is v → x ≡ Is w → v ≡ w
 the-value x v w e f = cc

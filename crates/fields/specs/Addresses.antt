@@ -5,7 +5,7 @@ use Prim.Native.Nat.{ℕ, zero, suc, _/_}
 use mathlib.Core.List.{List, [], _∷_}
 use lib.Dec.{ltb}
 use Rattle.lists.specs.Lists.{pick, spelled}
-use Rattle.parity.specs.Division.{shiftIn}
+use Rattle.remainders.specs.Division.{shiftIn}
 use Rattle.fields.specs.declared.answers.Address.{Address}
 use Rattle.fields.specs.declared.answers.Address.the-variants.{Is, Nobody}
 

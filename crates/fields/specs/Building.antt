@@ -6,7 +6,7 @@ use mathlib.Core.List.{List}
 use lib.Dec.{eqb, leb}
 use lib.ListN.{length}
 use Rattle.lists.specs.Lists.{pick}
-use Rattle.parity.specs.Overlays.{overlayOf}
+use Rattle.remainders.specs.Overlays.{overlayOf}
 use Rattle.fields.specs.Answers.{Outcome, written, refused}
 use Rattle.fields.specs.Bytes.{numberOf}
 use Rattle.fields.specs.Fields.{selectiveHead, allCallHead, replyHead, allCallReplyHead}

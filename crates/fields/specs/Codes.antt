@@ -6,8 +6,8 @@ use mathlib.Core.List.{List}
 use lib.Dec.{eqb, leb}
 use lib.ListN.{length}
 use Rattle.lists.specs.Lists.{pick}
-use Rattle.parity.specs.Messages.{bits, whole}
-use Rattle.parity.specs.Division.{remainderOf}
+use Rattle.remainders.specs.Messages.{bits, whole}
+use Rattle.remainders.specs.Division.{remainderOf}
 use Rattle.fields.specs.Answers.{Answer, done, refusal, own, matchingII, other}
 use Rattle.fields.specs.Reading.{formatOf}
 use Rattle.fields.specs.Shared.{codeNumber, ofSI}

@@ -5,8 +5,8 @@ use mathlib.Core.Path.{refl}
 use mathlib.Core.List.{List, [], _∷_}
 use lib.ListN.{replicate}
 use Rattle.lists.specs.Listing.{Row, row, Agrees}
-use Rattle.parity.specs.Messages.{bits}
-use Rattle.parity.specs.Division.{shiftIn, divide, remainderOf}
+use Rattle.remainders.specs.Messages.{bits}
+use Rattle.remainders.specs.Division.{shiftIn, divide, remainderOf}
 use Rattle.fields.specs.Fields.{headOf, midOf}
 use Rattle.fields.specs.declared.answers.Draws.{Draws}
 use Rattle.fields.specs.declared.answers.Draws.the-variants.{Format, Nothing}

@@ -5,8 +5,8 @@ use mathlib.Core.List.{List, [], _++_}
 use lib.Bits.{bitXor}
 use lib.Dec.{eqb}
 use Rattle.lists.specs.Lists.{pick}
-use Rattle.parity.specs.Messages.{bits}
-use Rattle.parity.specs.Division.{remainderOf}
+use Rattle.remainders.specs.Messages.{bits}
+use Rattle.remainders.specs.Division.{remainderOf}
 use Rattle.fields.specs.Bytes.{bytesOf}
 
 -- all but the parity, of a frame of n bytes: bits 1 to 32, and bits 33 to 88 when it is long

@@ -5,8 +5,8 @@ use mathlib.Core.List.{List, [], _∷_}
 use lib.Dec.{eqb}
 use lib.ListN.{length, take, drop}
 use Rattle.lists.specs.Lists.{pick}
-use Rattle.parity.specs.Messages.{bits, whole}
-use Rattle.parity.specs.Division.{remainderOf}
+use Rattle.remainders.specs.Messages.{bits, whole}
+use Rattle.remainders.specs.Division.{remainderOf}
 use Rattle.fields.specs.Answers.{Answer, done, refusal}
 use Rattle.fields.specs.Fields.{headOf, midOf, valueAt, atUF, atPC, atRR, atDI, atSD, atPR, atIC, atCL, atDF, atFS, atDR, atUM, atACorID, atCA, atAddress}
 use Rattle.fields.specs.Formats.{listed}

@@ -8,8 +8,8 @@ use lib.ListN.{length}
 use lib.IntN.{ℤ}
 use lib.Dec.{eqb, ltb}
 use Rattle.lists.specs.Lists.{pick}
-use Rattle.parity.specs.Answers.{Outcome}
-use Rattle.parity.specs.Correction.{sized}
+use Rattle.remainders.specs.Answers.{Outcome}
+use Rattle.remainders.specs.Correction.{sized}
 use Rattle.fields.specs.Formats.{lengthOf}
 use Rattle.fields.specs.Building.{anAddress}
 use Rattle.planner.specs.declared.request.Request.{Request}

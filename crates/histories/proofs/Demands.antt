@@ -4,7 +4,7 @@ use mathlib.Core.Path.{_≡_, refl, ap, ap₂, _∙_}
 use mathlib.Core.List.{List, [], _∷_, map}
 use Rattle.lists.specs.Lists.{All}
 use Rattle.lists.proofs.Each.{all-image}
-use Rattle.parity.specs.Messages.{AreBytes}
+use Rattle.remainders.specs.Messages.{AreBytes}
 use Rattle.planner.specs.declared.request.Request.{Request}
 use Rattle.planner.specs.declared.request.Ask.{Ask}
 use Rattle.planner.proofs.Demand3.{demand3, left-each}

@@ -10,9 +10,9 @@ use lib.ListN.{length, getD}
 use Rattle.lists.specs.Lists.{pick, every}
 use Rattle.lists.proofs.Each.{all-at}
 use Rattle.lists.proofs.Tests.{and-left, and-right, and-yes}
-use Rattle.parity.specs.Answers.{Outcome, refused}
-use Rattle.parity.specs.Messages.{bits}
-use Rattle.parity.specs.Correction.{weight, flipped, matching, want, judged, sized, ranged, correction}
+use Rattle.remainders.specs.Answers.{Outcome, refused}
+use Rattle.remainders.specs.Messages.{bits}
+use Rattle.remainders.specs.Correction.{weight, flipped, matching, want, judged, sized, ranged, correction}
 use Rattle.fields.specs.Formats.{surveillance, lengthOf}
 use Rattle.fields.specs.Building.{anAddress, selectiveRanged}
 use Rattle.fields.specs.Reading.{formatOf}

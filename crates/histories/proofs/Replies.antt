@@ -7,11 +7,11 @@ use mathlib.Core.Bool.{Bool, true, false, not}
 use lib.Dec.{eqb, ltb}
 use lib.ListN.{length}
 use Rattle.lists.specs.Lists.{pick}
-use Rattle.parity.specs.declared.answers.Fix.the-variants.{Flips}
-use Rattle.parity.specs.Answers.{Outcome, said}
-use Rattle.parity.specs.Correction.{sized, correction}
-use Rattle.parity.specs.Messages.{AreBytes}
-use Rattle.parity.proofs.Outcomes as parity
+use Rattle.remainders.specs.declared.answers.Fix.the-variants.{Flips}
+use Rattle.remainders.specs.Answers.{Outcome, said}
+use Rattle.remainders.specs.Correction.{sized, correction}
+use Rattle.remainders.specs.Messages.{AreBytes}
+use Rattle.remainders.proofs.Outcomes as parity
 use Rattle.fields.specs.Formats.{lengthOf}
 use Rattle.fields.specs.Reading.{formatOf}
 use Rattle.histories.specs.declared.state.Station.{Station}

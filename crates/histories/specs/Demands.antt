@@ -2,7 +2,7 @@
 use Prim.Native.Nat.{ℕ}
 use mathlib.Core.Path.{_≡_}
 use mathlib.Core.List.{List, map}
-use Rattle.parity.specs.Corrected.{Corrected}
+use Rattle.remainders.specs.Corrected.{Corrected}
 use Rattle.fields.specs.Reading.{formatOf}
 use Rattle.planner.specs.Demand3.{Demand3}
 use Rattle.histories.specs.declared.state.Station.{Station}

@@ -6,8 +6,8 @@ use lib.ListN.{length, getD}
 use lib.Dec.{eqb, leb, ltb}
 use Rattle.lists.specs.Checks.{Check, check}
 use Rattle.lists.specs.Lists.{countOf, every}
-use Rattle.parity.specs.Messages.{bits}
-use Rattle.parity.specs.Correction.{weight, matching, want, flipped, sized}
+use Rattle.remainders.specs.Messages.{bits}
+use Rattle.remainders.specs.Correction.{weight, matching, want, flipped, sized}
 use Rattle.fields.specs.Formats.{lengthOf}
 use Rattle.fields.specs.Building.{anAddress}
 use Rattle.fields.specs.Reading.{formatOf}

@@ -6,8 +6,8 @@ use lib.ListN.{length, getD, set}
 use lib.Dec.{eqb, leb, ltb}
 use lib.IntN.{ℤ, pos, subℕ}
 use Rattle.lists.specs.Lists.{pick}
-use Rattle.parity.specs.Answers.{Outcome}
-use Rattle.parity.specs.Correction.{sized, correction}
+use Rattle.remainders.specs.Answers.{Outcome}
+use Rattle.remainders.specs.Correction.{sized, correction}
 use Rattle.fields.specs.declared.answers.Draws.{Draws}
 use Rattle.fields.specs.declared.answers.Draws.the-variants.{Format, Nothing}
 use Rattle.fields.specs.Fields.{headOf, valueAt, atACorID}

@@ -8,10 +8,10 @@ use mathlib.Core.List.{List}
 use lib.Dec.{eqb, ltb}
 use lib.ListN.{length}
 use Rattle.lists.specs.Lists.{pick}
-use Rattle.parity.specs.Answers as reckoned
-use Rattle.parity.specs.Overlays.{overlayOf, uplinkOverlay}
-use Rattle.parity.specs.declared.answers.Reckoned.{Reckoned}
-use Rattle.parity.specs.declared.answers.Reckoned.the-variants as is
+use Rattle.remainders.specs.Answers as reckoned
+use Rattle.remainders.specs.Overlays.{overlayOf, uplinkOverlay}
+use Rattle.remainders.specs.declared.answers.Reckoned.{Reckoned}
+use Rattle.remainders.specs.declared.answers.Reckoned.the-variants as is
 use Rattle.fields.specs.Answers.{Outcome, said}
 use Rattle.fields.specs.declared.answers.Built.{Built}
 use Rattle.fields.specs.declared.answers.Built.the-variants.{Done, Length, Range}

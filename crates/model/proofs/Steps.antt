@@ -7,7 +7,7 @@ use mathlib.Core.Bool.{Bool, true, false}
 use mathlib.Core.List.{List, [], _∷_}
 use borrow.Author.Tests.{eq-eqb, ne-eqb, le-leb, lt-leb}
 use lib.ListN.{length, getD, replicate, List·getD-eq-default}
-use Rattle.parity.specs.Messages.{whole}
+use Rattle.remainders.specs.Messages.{whole}
 use Rattle.fields.specs.Answers.{Answer, upSaid}
 use Rattle.fields.specs.Building.{replying, allCallReplying}
 use Rattle.fields.specs.Bytes.{numberOf}

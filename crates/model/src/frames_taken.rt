@@ -1,6 +1,6 @@
 // A frame is taken at a time, with a draw.
 ghost use mathlib.Core.Path.{_≡_};
-ghost use Rattle.parity.specs.Messages.{whole};
+ghost use Rattle.remainders.specs.Messages.{whole};
 ghost use Rattle.fields.specs.Reading.{readUp};
 ghost use Rattle.transponder.specs.Calls.{heard, refusing, taking};
 use crate::lapses::lapse;

@@ -2,16 +2,16 @@
 ghost use mathlib.Core.Path.{_≡_};
 ghost use lib.ListN.{length};
 ghost use Prim.Native.Nat.{_≤_};
-ghost use Rattle.parity.specs.Messages.{bits};
-ghost use Rattle.parity.specs.Answers.{said};
-ghost use Rattle.parity.specs.Correction.{weight, matching, flipped, judged, correction};
-ghost use Rattle.parity.specs.Steps.{syndromesOf, back, first, Left};
-use crate::answers::Fix;
+ghost use Rattle.remainders.specs.Messages.{bits};
+ghost use Rattle.remainders.specs.Answers.{said};
+ghost use Rattle.remainders.specs.Correction.{weight, matching, flipped, judged, correction};
+ghost use Rattle.remainders.specs.Steps.{syndromesOf, back, first, Left};
 use crate::division::remainder_of;
 use crate::lengths::fitting;
 use crate::marks::gather;
 use crate::search::choose_byte;
 use crate::search::count;
+use remainders::Fix;
 
 // Writes the message with the one matching subset flipped, and says how many places that has.
 fn rebuild(

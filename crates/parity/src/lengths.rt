@@ -1,7 +1,7 @@
 // The lengths that a message and its buffers may have.
 ghost use mathlib.Core.Path.{_≡_};
-ghost use Rattle.parity.specs.Messages.{whole};
-ghost use Rattle.parity.specs.Correction.{sized};
+ghost use Rattle.remainders.specs.Messages.{whole};
+ghost use Rattle.remainders.specs.Correction.{sized};
 
 // Whether a number of bytes is that of a message.
 pub(crate) fn whole(n: usize) -> bool

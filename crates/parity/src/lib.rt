@@ -1,5 +1,4 @@
 // Parity and correction of document 01: remainders, overlays, and correction by marked bits.
-mod answers;
 mod correction;
 mod division;
 mod lengths;
@@ -8,10 +7,10 @@ mod overlay;
 mod search;
 mod syndrome;
 
-pub use answers::Fix;
-pub use answers::Reckoned;
 pub use correction::correct;
 pub use division::remainder;
 pub use lengths::fitting;
 pub use overlay::code_overlay;
 pub use overlay::uplink_overlay;
+pub use remainders::Fix;
+pub use remainders::Reckoned;

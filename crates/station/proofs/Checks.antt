@@ -6,7 +6,7 @@ use mathlib.Core.Bool.{true, false}
 use Prim.Native.Nat.{ℕ, _<_, _≤_}
 use borrow.Author.Tests.{eq-eqb, ne-eqb, lt-ltb, le-ltb}
 use lib.ListN.{length}
-use Rattle.parity.specs.Correction.{sized}
+use Rattle.remainders.specs.Correction.{sized}
 use Rattle.fields.specs.Formats.{lengthOf}
 use Rattle.planner.specs.declared.entry.Entry.{Entry}
 use Rattle.histories.specs.declared.state.Station.{Station}

@@ -8,8 +8,8 @@ use borrow.Author.Tests.{eq-eqb, ne-eqb}
 use lib.Dec.{eqb}
 use lib.IntN.{ℤ}
 use Rattle.lists.specs.Lists.{pick}
-use Rattle.parity.specs.Answers.{Outcome}
-use Rattle.parity.specs.Correction.{correction}
+use Rattle.remainders.specs.Answers.{Outcome}
+use Rattle.remainders.specs.Correction.{correction}
 use Rattle.fields.specs.Reading.{formatOf}
 use Rattle.planner.specs.declared.entry.Entry.{Entry}
 use Rattle.station.specs.declared.correcting.Corrected.{Corrected}

@@ -12,11 +12,11 @@ use lib.ListN.{length, take, replicate, length-append}
 use lib.Seq.{length-take-le}
 use Rattle.lists.specs.Lists.{pick}
 use Rattle.lists.proofs.Tests.{and-true, or-true}
-use Rattle.parity.specs.declared.answers.Fix.{Fix}
-use Rattle.parity.specs.declared.answers.Fix.the-variants.{Flips, Length, Range, Marks, NoMatch, Doubt}
-use Rattle.parity.specs.Answers.{Outcome, said, refused, numberOf, flipsOf}
-use Rattle.parity.specs.Messages.{bits, whole}
-use Rattle.parity.specs.Correction.{weight, matching, want, judged, sized, ranged, correction}
+use Rattle.remainders.specs.declared.answers.Fix.{Fix}
+use Rattle.remainders.specs.declared.answers.Fix.the-variants.{Flips, Length, Range, Marks, NoMatch, Doubt}
+use Rattle.remainders.specs.Answers.{Outcome, said, refused, numberOf, flipsOf}
+use Rattle.remainders.specs.Messages.{bits, whole}
+use Rattle.remainders.specs.Correction.{weight, matching, want, judged, sized, ranged, correction}
 use Rattle.fields.specs.Reading.{formatOf}
 use Rattle.station.specs.declared.correcting.Corrected.{Corrected}
 use Rattle.histories.specs.Replies.{ofFormat}

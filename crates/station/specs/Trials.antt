@@ -4,7 +4,7 @@ use mathlib.Core.List.{List}
 use lib.Dec.{eqb}
 use lib.IntN.{pos}
 use Rattle.lists.specs.Lists.{pick}
-use Rattle.parity.specs.Answers.{Outcome}
+use Rattle.remainders.specs.Answers.{Outcome}
 use Rattle.fields.specs.Reading.{formatOf}
 use Rattle.station.specs.declared.correcting.Corrected.{Corrected}
 use Rattle.histories.specs.declared.state.Station.{Station}

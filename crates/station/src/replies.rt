@@ -3,7 +3,7 @@ ghost use mathlib.Core.Path.{_≡_};
 ghost use mathlib.Core.Bool.{true};
 ghost use Prim.Native.Nat.{_<_};
 ghost use lib.ListN.{length};
-ghost use Rattle.parity.specs.Correction.{sized};
+ghost use Rattle.remainders.specs.Correction.{sized};
 ghost use Rattle.histories.specs.State.{entriesOf};
 ghost use Rattle.histories.specs.Replies.{expected, holdsID, inWindow, saidIn, targetsHeard, entryNumbered, told, corrected, settled, replied};
 ghost use Rattle.station.specs.Trials.{refusal};

@@ -3,9 +3,9 @@
 use mathlib.Core.Path.{refl}
 use Rattle.lists.specs.Lists.{over}
 use Rattle.lists.specs.Listing.{Agrees}
-use Rattle.parity.specs.Messages.{bits}
-use Rattle.parity.specs.Division.{shiftIn, divide, remainderOf}
-use Rattle.parity.specs.Overlays.{lowBits, times, overlayOf}
+use Rattle.remainders.specs.Messages.{bits}
+use Rattle.remainders.specs.Division.{shiftIn, divide, remainderOf}
+use Rattle.remainders.specs.Overlays.{lowBits, times, overlayOf}
 use Rattle.fields.specs.Building as frames
 use Rattle.fields.specs.Fields.{headOf, midOf, selectiveHead, allCallHead, replyHead, allCallReplyHead}
 use Rattle.fields.specs.Frames.{front, sealed}

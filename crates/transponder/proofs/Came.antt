@@ -10,7 +10,7 @@ use lib.ListN.{length, getD, replicate}
 use borrow.Author.Tests.{eqb-true, eqb-false, leb-true, leb-false}
 use Rattle.lists.specs.Lists.{pick}
 use Rattle.lists.proofs.Tests.{and-yes, and-no-left, and-no-right}
-use Rattle.parity.specs.Messages.{whole, AreBytes}
+use Rattle.remainders.specs.Messages.{whole, AreBytes}
 use Rattle.fields.specs.Building.{replying}
 use Rattle.fields.specs.Bytes.{numberOf}
 use Rattle.fields.specs.Formats.{lengthOf}

@@ -11,7 +11,7 @@ use borrow.Author.Tests.{leb-true}
 use Rattle.lists.specs.Lists.{pick, All}
 use Rattle.lists.proofs.Tests.{and-true}
 use Rattle.lists.proofs.Held.{all-snoc}
-use Rattle.parity.specs.Messages.{AreBytes}
+use Rattle.remainders.specs.Messages.{AreBytes}
 use Rattle.fields.specs.Bytes.{numberOf}
 use Rattle.fields.specs.Reading.{readUp}
 use Rattle.fields.proofs.Numbers.{number-lt}

@@ -9,7 +9,7 @@ use lib.Dec.{eqb, leb, ltb}
 use lib.ListN.{length}
 use borrow.Author.Tests.{ne-eqb, eq-eqb, leb-true, leb-false, lt-ltb, le-ltb}
 use Rattle.lists.specs.Lists.{pick}
-use Rattle.parity.specs.Messages.{whole, AreBytes}
+use Rattle.remainders.specs.Messages.{whole, AreBytes}
 use Rattle.transponder.specs.declared.state.Made.{Made}
 use Rattle.transponder.specs.declared.state.Queued.{Queued}
 use Rattle.transponder.specs.declared.state.Transponder.{Transponder}

@@ -10,8 +10,8 @@ use lib.ListN.{length, getD, length-replicate}
 use borrow.Author.Tests.{eqb-true, eq-eqb, leb-true, le-leb}
 use Rattle.lists.specs.Lists.{pick, All}
 use Rattle.lists.proofs.Tests.{and-true, and-yes}
-use Rattle.parity.specs.Messages.{bits, whole}
-use Rattle.parity.specs.Division.{remainderOf}
+use Rattle.remainders.specs.Messages.{bits, whole}
+use Rattle.remainders.specs.Division.{remainderOf}
 use Rattle.fields.specs.Building.{anAddress, replyRanged, allCallReplyRanged, anAllCallReply, replying, allCallReplying}
 use Rattle.fields.specs.Formats.{longFormat, surveillance, lengthOf, listed}
 use Rattle.fields.specs.Answers.{refusal}

@@ -6,8 +6,8 @@ use mathlib.Core.List.{List}
 use lib.Dec.{eqb, leb, ltb}
 use lib.ListN.{length, getD, replicate}
 use Rattle.lists.specs.Lists.{pick}
-use Rattle.parity.specs.Messages.{whole}
-use Rattle.parity.specs.Overlays.{overlayOf}
+use Rattle.remainders.specs.Messages.{whole}
+use Rattle.remainders.specs.Overlays.{overlayOf}
 use Rattle.fields.specs.Building.{anAddress}
 use Rattle.fields.specs.Bytes.{numberOf}
 use Rattle.fields.specs.Reading.{readUp}

@@ -2,7 +2,7 @@
 -- Assumes nothing: these are definitions.
 use Prim.Native.Nat.{ℕ}
 use mathlib.Core.List.{List, [], _∷_}
-use Rattle.parity.specs.Messages.{AreBytes}
+use Rattle.remainders.specs.Messages.{AreBytes}
 use Rattle.transponder.specs.declared.state.Made.{Made}
 use Rattle.transponder.specs.declared.state.Transponder.{Transponder}
 use Rattle.transponder.specs.Calls.{making, queuing, taking}

@@ -5,7 +5,7 @@ use mathlib.Core.Bool.{Bool, not, _&&_}
 use lib.ListN.{length}
 use lib.Dec.{eqb, leb, ltb}
 use Rattle.lists.specs.Checks.{Check, check}
-use Rattle.parity.specs.Messages.{whole}
+use Rattle.remainders.specs.Messages.{whole}
 use Rattle.fields.specs.Building.{anAddress}
 use Rattle.transponder.specs.declared.state.Transponder.{Transponder}
 use Rattle.transponder.specs.State.{waiting}

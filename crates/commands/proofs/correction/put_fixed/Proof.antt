@@ -1,7 +1,7 @@
 -- `put_fixed` lays what the correction answers and leaves in its buffer.
 use mathlib.Core.Path.{ap, _∙_}
 use Rattle.text.proofs.Laid.{put-of}
-use Rattle.parity.specs.Correction.{correction}
+use Rattle.remainders.specs.Correction.{correction}
 use Rattle.commands.specs.Parity.{correctedText, fixedText}
 use borrow.Author.Needs.{needs}
 use Rattle.commands.proofs.correction.put_fixed.Statement.{statement}

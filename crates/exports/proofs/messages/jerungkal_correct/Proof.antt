@@ -4,7 +4,7 @@ use mathlib.Core.Path.{ap₂, _∙_}
 use Prim.Native.Nat.{ℕ}
 use mathlib.Core.List.{List}
 use borrow.Author.Needs.{needs}
-use Rattle.parity.specs.Answers.{Outcome}
+use Rattle.remainders.specs.Answers.{Outcome}
 use Rattle.exports.proofs.messages.jerungkal_correct.Statement.{statement}
 use Rattle.exports.proofs.messages.jerungkal_correct.Tie as tie
 

@@ -1,6 +1,6 @@
 -- `frames::frame::overlay_of` meets its contract: the case of a number is the only one that comes.
 -- Assumes nothing.
-use Rattle.parity.proofs.Laws.{uplink-is}
+use Rattle.remainders.proofs.Laws.{uplink-is}
 use Rattle.fields.proofs.Told.{the-value, no-length, no-range}
 use borrow.Author.Needs.{needs}
 use Rattle.frames.proofs.frame.overlay_of.Statement.{statement}

@@ -6,7 +6,7 @@ use native.Mathlib.Omega.{arith}
 use lib.Bits.{xor-lt}
 use lib.ListN.{length}
 use lib.Seq.{length-sets}
-use Rattle.parity.specs.Messages.{whole}
+use Rattle.remainders.specs.Messages.{whole}
 use Rattle.fields.specs.Bytes.{bytesOf}
 use Rattle.fields.proofs.Laying.{whole-least, seal-law}
 use borrow.Author.Needs.{needs}

@@ -1,7 +1,7 @@
 -- `frames::frame::write` meets its contract: the fields, then the parity.
 -- Assumes nothing.
 use mathlib.Core.Path.{ap, _∙_}
-use Rattle.parity.specs.Messages.{whole}
+use Rattle.remainders.specs.Messages.{whole}
 use Rattle.fields.proofs.Laying.{filled-length, write-law}
 use borrow.Author.Needs.{needs}
 use Rattle.frames.proofs.frame.write.Statement.{statement}

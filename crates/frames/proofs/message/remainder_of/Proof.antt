@@ -1,7 +1,7 @@
 -- `frames::message::remainder_of` meets its contract: the case of a number is the only one that comes.
 -- Assumes nothing.
 use native.Mathlib.Omega.{arith}
-use Rattle.parity.proofs.Laws.{remainder-is, remainder-lt}
+use Rattle.remainders.proofs.Laws.{remainder-is, remainder-lt}
 use Rattle.fields.proofs.Told.{the-value, no-length, no-range}
 use borrow.Author.Needs.{needs}
 use Rattle.frames.proofs.message.remainder_of.Statement.{statement}

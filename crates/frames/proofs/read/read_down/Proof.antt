@@ -5,7 +5,7 @@ use mathlib.Core.Bool.{true}
 use Prim.Native.Nat.{ℕ}
 use lib.ListN.{length}
 use borrow.Author.Tests.{not-true, not-false}
-use Rattle.parity.specs.Messages.{whole}
+use Rattle.remainders.specs.Messages.{whole}
 use Rattle.fields.specs.Fields.{valueAt, atUF}
 use Rattle.fields.specs.Formats.{listed}
 use Rattle.fields.specs.Reading.{formatOf, allCallReplyRead, surveillanceRead}

@@ -4,7 +4,7 @@ use mathlib.Core.Path.{_≡_, sym, ap, _∙_}
 use mathlib.Core.Bool.{true}
 use native.Mathlib.Omega.{arith}
 use borrow.Author.Tests.{eq-eqb, ne-eqb, not-true, not-false}
-use Rattle.parity.specs.Messages.{whole}
+use Rattle.remainders.specs.Messages.{whole}
 use Rattle.fields.specs.Answers.{written}
 use Rattle.fields.specs.Building.{allCallReplyRanged, allCallReplying}
 use Rattle.fields.proofs.Ranges.{all-call-reply-in, all-call-reply-is}

@@ -8,10 +8,10 @@ use lib.Bits.{bitXor}
 use lib.ListN.{length}
 use borrow.Author.Needs.{needs}
 use borrow.Author.Tests.{lt-ltb, le-ltb, le-leb, lt-leb, not-true, not-false}
-use Rattle.parity.specs.Messages.{bits}
-use Rattle.parity.specs.Correction.{sized, ranged, matching, judged}
-use Rattle.parity.specs.Steps.{back, syndromesOf}
-use Rattle.parity.proofs.Judged.{sizes, gives-length, gives-range, gives-marks, gives-judged}
+use Rattle.remainders.specs.Messages.{bits}
+use Rattle.remainders.specs.Correction.{sized, ranged, matching, judged}
+use Rattle.remainders.specs.Steps.{back, syndromesOf}
+use Rattle.remainders.proofs.Judged.{sizes, gives-length, gives-range, gives-marks, gives-judged}
 use Rattle.parity.proofs.correction.correct.Statement.{statement}
 use Rattle.parity.proofs.correction.correct.Tie as tie
 

@@ -4,12 +4,12 @@ use mathlib.Core.Path.{_≡_, refl}
 use Prim.Native.Nat.{_-_, _≤_}
 use native.Mathlib.Omega.{arith}
 use lib.ListN.{length, length-set}
-use Rattle.parity.specs.Messages.{bits}
-use Rattle.parity.specs.Correction.{matching}
-use Rattle.parity.specs.Steps.{first}
-use Rattle.parity.proofs.Bits.{bits-length}
-use Rattle.parity.proofs.Choosing.{left-first}
-use Rattle.parity.proofs.Written.{Written, written-start, written-step, written-end}
+use Rattle.remainders.specs.Messages.{bits}
+use Rattle.remainders.specs.Correction.{matching}
+use Rattle.remainders.specs.Steps.{first}
+use Rattle.remainders.proofs.Bits.{bits-length}
+use Rattle.remainders.proofs.Choosing.{left-first}
+use Rattle.remainders.proofs.Written.{Written, written-start, written-step, written-end}
 use Rattle.parity.proofs.correction.rebuild.Statement.{statement}
 use borrow.Author.Needs.{needs}
 use Rattle.parity.proofs.correction.rebuild.Tie as tie

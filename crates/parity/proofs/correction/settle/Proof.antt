@@ -4,11 +4,11 @@ use mathlib.Core.Path.{_≡_, sym, ap, _∙_}
 use native.Mathlib.Omega.{arith}
 use lib.ListN.{length}
 use borrow.Author.Needs.{needs}
-use Rattle.parity.specs.Messages.{bits}
-use Rattle.parity.specs.Correction.{matching}
-use Rattle.parity.specs.Steps.{ways}
-use Rattle.parity.proofs.Match.{count-law}
-use Rattle.parity.proofs.Judged.{one, judged-none, judged-doubt, judged-one}
+use Rattle.remainders.specs.Messages.{bits}
+use Rattle.remainders.specs.Correction.{matching}
+use Rattle.remainders.specs.Steps.{ways}
+use Rattle.remainders.proofs.Match.{count-law}
+use Rattle.remainders.proofs.Judged.{one, judged-none, judged-doubt, judged-one}
 use Rattle.parity.proofs.correction.settle.Statement.{statement}
 use Rattle.parity.proofs.correction.settle.Tie as tie
 

@@ -5,7 +5,7 @@ use Prim.Native.Nat.{ℕ, _+_, _*_, _%_, _<_}
 use native.Mathlib.Omega.{arith}
 use borrow.Author.Needs.{needs}
 use lib.Bits.{bitXor}
-use Rattle.parity.proofs.Linear.{byte-law, byte-bits, divide-lt}
+use Rattle.remainders.proofs.Linear.{byte-law, byte-bits, divide-lt}
 use Rattle.parity.proofs.division.byte_in.Statement.{statement}
 use Rattle.parity.proofs.division.byte_in.Tie as tie
 

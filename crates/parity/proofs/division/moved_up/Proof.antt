@@ -6,8 +6,8 @@ use native.Mathlib.Omega.{arith}
 use borrow.Author.Needs.{needs}
 use lib.Bits.{bitXor, xor-lt}
 use Rattle.lists.proofs.Table.{alike}
-use Rattle.parity.specs.Division.{shiftIn, divide}
-use Rattle.parity.specs.Steps.{movedUp}
+use Rattle.remainders.specs.Division.{shiftIn, divide}
+use Rattle.remainders.specs.Steps.{movedUp}
 use Rattle.parity.proofs.division.moved_up.Statement.{statement}
 use Rattle.parity.proofs.division.moved_up.Tie as tie
 

@@ -3,7 +3,7 @@
 use mathlib.Core.Path.{sym, ap, _∙_}
 use borrow.Author.Needs.{needs}
 use borrow.Author.Tests.{not-true, not-false}
-use Rattle.parity.specs.Answers.{done}
+use Rattle.remainders.specs.Answers.{done}
 use Rattle.parity.proofs.division.remainder.Statement.{statement}
 use Rattle.parity.proofs.division.remainder.Tie as tie
 

@@ -7,8 +7,8 @@ use native.Mathlib.Numerals.{add-one}
 use native.Mathlib.Omega.{arith}
 use lib.ListN.{length, drop, getD, drop-of-length-le}
 use lib.Seq.{drop-cons}
-use Rattle.parity.specs.Messages.{bits, byteThen}
-use Rattle.parity.specs.Division.{divide, remainderOf}
+use Rattle.remainders.specs.Messages.{bits, byteThen}
+use Rattle.remainders.specs.Division.{divide, remainderOf}
 use Rattle.parity.proofs.division.remainder_of.Statement.{statement}
 use Rattle.parity.proofs.division.remainder_of.Tie as tie
 

@@ -2,7 +2,7 @@
 -- Assumes nothing.
 use Prim.Native.Nat.{_/_}
 use native.Mathlib.Omega.{arith}
-use Rattle.parity.proofs.Bits.{bit-at}
+use Rattle.remainders.proofs.Bits.{bit-at}
 use Rattle.parity.proofs.marks.bit.Statement.{statement}
 use borrow.Author.Needs.{needs}
 use Rattle.parity.proofs.marks.bit.Tie as tie

@@ -4,10 +4,10 @@ use mathlib.Core.Path.{_≡_, refl, sym, subst}
 use Prim.Native.Nat.{ℕ, _-_, _*_, _<_, _≤_}
 use native.Mathlib.Omega.{arith}
 use lib.ListN.{length, drop}
-use Rattle.parity.specs.Messages.{bits}
-use Rattle.parity.specs.Steps.{Gathered}
-use Rattle.parity.proofs.Bits.{bits-length, bits-are, are-at}
-use Rattle.parity.proofs.Kept.{gathered-none, gathered-next, gathered-all}
+use Rattle.remainders.specs.Messages.{bits}
+use Rattle.remainders.specs.Steps.{Gathered}
+use Rattle.remainders.proofs.Bits.{bits-length, bits-are, are-at}
+use Rattle.remainders.proofs.Kept.{gathered-none, gathered-next, gathered-all}
 use Rattle.parity.proofs.marks.gather.Statement.{statement}
 use Rattle.parity.proofs.marks.gather.Tie as tie
 

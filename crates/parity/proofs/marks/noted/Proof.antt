@@ -5,7 +5,7 @@ use lib.ListN.{length-set}
 use native.Mathlib.Numerals.{add-one}
 use native.Mathlib.Omega.{arith}
 use borrow.Author.Needs.{needs}
-use Rattle.parity.proofs.Kept.{back-set}
+use Rattle.remainders.proofs.Kept.{back-set}
 use Rattle.parity.proofs.marks.noted.Statement.{statement}
 use Rattle.parity.proofs.marks.noted.Tie as tie
 

@@ -4,7 +4,7 @@ use mathlib.Core.Path.{ap}
 use native.Mathlib.Omega.{arith}
 use borrow.Author.Needs.{needs}
 use borrow.Author.Tests.{le-leb, lt-leb}
-use Rattle.parity.specs.Answers.{done}
+use Rattle.remainders.specs.Answers.{done}
 use Rattle.parity.proofs.overlay.code_overlay.Statement.{statement}
 use Rattle.parity.proofs.overlay.code_overlay.Tie as tie
 

@@ -5,8 +5,8 @@ use Prim.Native.Nat.{ℕ, _-_, _/_, _<_, _≤_, _^_}
 use native.Mathlib.Nat.{lt-of-lt-of-le}
 use native.Mathlib.Omega.{arith}
 use lib.Pow.{pow-mono}
-use Rattle.parity.specs.Overlays.{lowBits, times, overlayOf}
-use Rattle.parity.proofs.Product.{turn}
+use Rattle.remainders.specs.Overlays.{lowBits, times, overlayOf}
+use Rattle.remainders.proofs.Product.{turn}
 use Rattle.parity.proofs.overlay.overlay_of.Statement.{statement}
 use Rattle.parity.proofs.overlay.overlay_of.Tie as tie
 

@@ -8,7 +8,7 @@ use lib.Bits.{bitXor}
 use borrow.Author.Needs.{needs}
 use borrow.Fn.Kinds.{In}
 use borrow.Fn.PlainCycle.{Measures, is, falls, and}
-use Rattle.parity.proofs.Kept.{ways-end, ways-next, ways-small}
+use Rattle.remainders.proofs.Kept.{ways-end, ways-next, ways-small}
 use Rattle.parity.proofs.search.count.Reads as count
 use Rattle.parity.proofs.search.count.Kinds as count-kinds
 use Rattle.parity.proofs.search.hit.Reads as hit-reads

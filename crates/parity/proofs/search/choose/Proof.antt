@@ -5,9 +5,9 @@ use Prim.Native.Nat.{_<_}
 use native.Mathlib.Omega.{arith}
 use lib.ListN.{length, getD}
 use borrow.Author.Needs.{needs}
-use Rattle.parity.specs.Messages.{bits}
-use Rattle.parity.proofs.Bits.{bits-length}
-use Rattle.parity.proofs.Choosing.{plain-on, marked, mark-take, mark-leave}
+use Rattle.remainders.specs.Messages.{bits}
+use Rattle.remainders.proofs.Bits.{bits-length}
+use Rattle.remainders.proofs.Choosing.{plain-on, marked, mark-take, mark-leave}
 use Rattle.parity.proofs.search.choose.Statement.{statement}
 use Rattle.parity.proofs.search.choose.Tie as tie
 

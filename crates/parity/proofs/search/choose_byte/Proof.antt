@@ -5,11 +5,11 @@ use Prim.Native.Nat.{_-_, _*_, _<_, _≤_}
 use native.Mathlib.Omega.{arith}
 use lib.ListN.{drop}
 use lib.Pow.{pow-mono}
-use Rattle.parity.specs.Messages.{bits}
-use Rattle.parity.specs.Correction.{matching}
-use Rattle.parity.specs.Steps.{first}
-use Rattle.parity.proofs.Choosing.{left-first}
-use Rattle.parity.proofs.Written.{ByteAt, byte-start, byte-step, byte-end}
+use Rattle.remainders.specs.Messages.{bits}
+use Rattle.remainders.specs.Correction.{matching}
+use Rattle.remainders.specs.Steps.{first}
+use Rattle.remainders.proofs.Choosing.{left-first}
+use Rattle.remainders.proofs.Written.{ByteAt, byte-start, byte-step, byte-end}
 use Rattle.parity.proofs.search.choose_byte.Statement.{statement}
 use Rattle.parity.proofs.search.choose_byte.Tie as tie
 

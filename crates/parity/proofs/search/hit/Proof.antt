@@ -3,7 +3,7 @@
 use mathlib.Core.Path.{sym}
 use native.Mathlib.Omega.{arith}
 use borrow.Author.Tests.{eq-eqb, ne-eqb}
-use Rattle.parity.specs.Steps.{ways}
+use Rattle.remainders.specs.Steps.{ways}
 use Rattle.parity.proofs.search.hit.Statement.{statement}
 use Rattle.parity.proofs.search.hit.Tie as tie
 

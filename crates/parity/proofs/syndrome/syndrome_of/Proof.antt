@@ -4,7 +4,7 @@ use mathlib.Core.Path.{_≡_, _∙_, ap}
 use Prim.Native.Nat.{ℕ, _-_, _<_}
 use native.Mathlib.Omega.{arith}
 use borrow.Author.Needs.{needs}
-use Rattle.parity.specs.Division.{syndrome, remainderOf, divide, shiftIn}
+use Rattle.remainders.specs.Division.{syndrome, remainderOf, divide, shiftIn}
 use Rattle.lists.proofs.Table.{entry}
 use Rattle.parity.proofs.syndrome.syndrome_of.Statement.{statement}
 use Rattle.parity.proofs.syndrome.syndrome_of.Tie as tie
