@@ -1,13 +1,16 @@
 -- Lines of document 01, computed: the first plan line of case P1, a report of nothing heard, and the edges of the rules.
 use mathlib.Core.Path.{_≡_, refl}
+use mathlib.Core.List.{[], _∷_}
 use lib.IntN.{negsuc}
 use Rattle.text.specs.Put.{decimalIn, decimal}
 use Rattle.text.specs.Signed.{signedDecimal}
 use Rattle.text.specs.Plain.{plain}
 use Rattle.planner.specs.declared.request.Ask.{Ask}
 use Rattle.planner.specs.Exchange.{sentFor, replyFor, entryAt}
+use Rattle.records.specs.Records.{bodyLength, recordAt}
 use Rattle.histories.specs.declared.state.Value.the-variants.{Never, Heard}
 use Rattle.stream.specs.Lines.{line, answerLine, replyLine, entryLine, valueWord, ageWord, reportLine}
+use Rattle.stream.specs.Run.{outcome, goesOn, textFrom, transcript}
 
 -- case P1: unit 0 asks address 1 with UF 20 and RR 16; near 2000, far 2010
 abbrev asked : Ask
@@ -39,3 +42,20 @@ nothing-heard = refl
 heard-zero : reportLine (Heard 0 0) Never ≡ plain "0 0 - -\n"
 unfolding reportLine line valueWord ageWord decimal decimalIn
 heard-zero = refl
+
+-- ---- streams that end at once
+
+-- empty input prints nothing
+no-record : transcript [] ≡ []
+unfolding transcript textFrom recordAt outcome goesOn
+no-record = refl
+
+-- an unknown kind, also as the last byte
+unknown-kind : transcript (200 ∷ []) ≡ plain "1 200 16\n"
+unfolding transcript textFrom recordAt bodyLength outcome goesOn answerLine line decimal decimalIn
+unknown-kind = refl
+
+-- a new target of which one byte is missing
+cut-record : transcript (2 ∷ 0 ∷ 0 ∷ 1 ∷ 0 ∷ 0 ∷ 0 ∷ []) ≡ plain "1 2 17\n"
+unfolding transcript textFrom recordAt bodyLength outcome goesOn answerLine line decimal decimalIn
+cut-record = refl

@@ -4,3 +4,4 @@ pub mod Lengths
 pub mod Steps
 pub mod Runs
 mod Examples
+mod CaseP1
