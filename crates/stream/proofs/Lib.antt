@@ -3,5 +3,6 @@ pub mod PlanLines
 pub mod Lengths
 pub mod Steps
 pub mod Runs
+pub mod Unique
 mod Examples
 mod CaseP1

@@ -5,43 +5,47 @@ use native.Mathlib.Omega.{arith}
 use mathlib.Core.Path.{_≡_, refl, ap, _∙_}
 use mathlib.Core.Bool.{Bool, true, false}
 use mathlib.Core.List.{List, [], _++_}
-use lib.ListN.{length, take, length-take}
+use lib.ListN.{length, getD, take, length-take}
 use borrow.Author.Tests.{le-leb}
 use Rattle.lists.specs.Lists.{pick}
 use Rattle.text.proofs.Laid.{length-laid, take-laid}
 use Rattle.records.specs.declared.reading.Found.{Found}
 use Rattle.records.specs.declared.reading.Found.the-variants.{End, Unknown, Cut, Whole}
-use Rattle.records.specs.Records.{recordAt}
+use Rattle.records.specs.Records.{bodyLength, recordAt}
 use Rattle.records.proofs.Steps.{whole-fits}
 use Rattle.histories.specs.declared.state.Station.{Station}
 use Rattle.stream.specs.declared.run.Run.{Run}
-use Rattle.stream.specs.Run.{outcome, goesOn, placeAfter, textFrom, transcript, begun, outcomeNow, advanced, written, Advanced}
+use Rattle.stream.specs.Run.{outcome, goesOn, nextPlace, textFrom, transcript, begun, outcomeNow, advanced, written, runAfter, Advanced}
 
 -- ---- a step takes each byte at most once
 
 -- where the run goes on after a place: past the byte of kind and the body that stand there, and not beyond the end of the stream
-pub record Taken (s : List ℕ) (at : ℕ) (f : Found) : Type 0 where
-  pub forward : at < placeAfter f at
-  pub inside : placeAfter f at ≤ length s
+pub record Taken (s : List ℕ) (at next : ℕ) : Type 0 where
+  pub own : next ≡ at + 1 + bodyLength (getD s at 0)
+  pub forward : at < next
+  pub inside : next ≤ length s
 
-taken-by : (s : List ℕ) (at : ℕ) (f : Found) → recordAt s at ≡ f → goesOn f ≡ true → Taken s at f
-unfolding goesOn placeAfter
+taken-by : (s : List ℕ) (at : ℕ) (f : Found) → recordAt s at ≡ f → goesOn f ≡ true → Taken s at (nextPlace f at)
+unfolding goesOn nextPlace
 taken-by s at End h e = let z : _≡_ {A = ℕ} 0 1 = cc in absurd (omega arith)
 taken-by s at (Unknown b) h e = let z : _≡_ {A = ℕ} 0 1 = cc in absurd (omega arith)
 taken-by s at (Cut kind) h e = let z : _≡_ {A = ℕ} 0 1 = cc in absurd (omega arith)
-taken-by s at (Whole kind body next) h e = let w = whole-fits s at h in record { forward = omega (arith, w .body, w .next); inside = w .inside }
+taken-by s at (Whole kind body next) h e =
+    let w = whole-fits s at h in
+    let b : bodyLength kind ≡ bodyLength (getD s at 0) = ap bodyLength (w .kind) in
+    record { own = omega (arith, w .body, w .next, b); forward = omega (arith, w .body, w .next); inside = w .inside }
 
-stays-by : (f : Found) (at : ℕ) → goesOn f ≡ false → placeAfter f at ≡ at
-unfolding goesOn placeAfter
+stays-by : (f : Found) (at : ℕ) → goesOn f ≡ false → nextPlace f at ≡ at
+unfolding goesOn nextPlace
 stays-by End at e = refl
 stays-by (Unknown b) at e = refl
 stays-by (Cut kind) at e = refl
 stays-by (Whole kind body next) at e = let z : _≡_ {A = ℕ} 0 1 = cc in absurd (omega arith)
 
--- a step that goes on moves forward by the record's own bytes; one that does not takes nothing more
-pub takes-once : (s : List ℕ) (r : Run) → advanced s r .more ≡ true → (r .at < advanced s r .at) × (advanced s r .at ≤ length s)
+-- a step that goes on takes the record's own bytes, which no later step takes again; one that does not go on takes nothing
+pub takes-once : (s : List ℕ) (r : Run) → advanced s r .more ≡ true → Taken s (r .at) (advanced s r .at)
 unfolding advanced
-takes-once s r e = let t = taken-by s (r .at) (recordAt s (r .at)) refl e in (t .forward, t .inside)
+takes-once s r e = taken-by s (r .at) (recordAt s (r .at)) refl e
 
 pub ends-there : (s : List ℕ) (r : Run) → advanced s r .more ≡ false → advanced s r .at ≡ r .at
 unfolding advanced
@@ -53,7 +57,7 @@ ends-there s r e = stays-by (recordAt s (r .at)) (r .at) e
 abbrev pub left : List ℕ → Run → ℕ
 left s r = (length s - r .at) + pick (r .more) 1 0
 
-by-test : (s : List ℕ) (at : ℕ) (f : Found) (b : Bool) → recordAt s at ≡ f → goesOn f ≡ b → (length s - placeAfter f at) + pick b 1 0 < (length s - at) + 1
+by-test : (s : List ℕ) (at : ℕ) (f : Found) (b : Bool) → recordAt s at ≡ f → goesOn f ≡ b → (length s - nextPlace f at) + pick b 1 0 < (length s - at) + 1
 by-test s at f true h e = let t = taken-by s at f h e in omega (arith, t .forward, t .inside)
 by-test s at f false h e = omega (arith, stays-by f at e)
 
@@ -65,6 +69,25 @@ falls s r m = rw m (by-test s (r .at) (recordAt s (r .at)) (goesOn (recordAt s (
 pub falls-after : {s l m : List ℕ} {r q : Run} → Advanced s r l m q → r .more ≡ true → left s q < left s r
 falls-after {s} {l} {m} {r} a e = rw (a .answer) (falls s r e)
 
+none-left : (s : List ℕ) (r : Run) (b : Bool) → r .more ≡ b → left s r ≤ 0 → r .more ≡ false
+none-left s r true e h = let z : (length s - r .at) + 1 ≤ 0 = rw e at h in absurd (omega arith)
+none-left s r false e h = e
+
+one-more : (k : ℕ) (s : List ℕ) (r : Run) (b : Bool) → r .more ≡ b → left s r ≤ suc k → ((q : Run) → left s q ≤ k → runAfter k s q .more ≡ false) → runAfter (suc k) s r .more ≡ false
+unfolding runAfter advanced outcomeNow
+one-more k s r true e h later = rw e (later (advanced s r) (omega (arith, falls s r e, h)))
+one-more k s r false e h later = rw e
+
+pub steps-end : (k : ℕ) (s : List ℕ) (r : Run) → left s r ≤ k → runAfter k s r .more ≡ false
+unfolding runAfter
+steps-end zero s r h = none-left s r (r .more) refl h
+steps-end (suc k) s r h = one-more k s r (r .more) refl h (λ q y. steps-end k s q y)
+
+-- the run ends for every input
+pub the-run-ends : (input : List ℕ) → runAfter 65537 (take 65536 input) begun .more ≡ false
+unfolding begun
+the-run-ends input = steps-end 65537 (take 65536 input) begun (simp length-take (omega arith))
+
 -- ---- more steps than bytes print nothing more
 
 past-end : (s : List ℕ) (at : ℕ) → length s ≤ at → recordAt s at ≡ End
@@ -73,7 +96,7 @@ past-end s at h = rw (le-leb (length s) at h)
 
 -- the text of what stands at a place and of what follows
 abbrev onward : ℕ → List ℕ → ℕ → ℕ → Station → Found → Bool → List ℕ
-onward k s at n st f b = outcome s n st f .lines ++ pick b (textFrom k s (placeAfter f at) (n + 1) (outcome s n st f .station)) []
+onward k s at n st f b = outcome s n st f .lines ++ pick b (textFrom k s (nextPlace f at) (n + 1) (outcome s n st f .station)) []
 
 same-onward : (j k : ℕ) (s : List ℕ) (at n : ℕ) (st : Station)
     → ((to m : ℕ) (after : Station) → length s < to + j → length s < to + k → textFrom j s to m after ≡ textFrom k s to m after)
@@ -81,7 +104,7 @@ same-onward : (j k : ℕ) (s : List ℕ) (at n : ℕ) (st : Station)
 same-onward j k s at n st later f false h e x y = refl
 same-onward j k s at n st later f true h e x y =
     let t = taken-by s at f h e in
-    rw (later (placeAfter f at) (n + 1) (outcome s n st f .station) (omega (arith, t .forward)) (omega (arith, t .forward)))
+    rw (later (nextPlace f at) (n + 1) (outcome s n st f .station) (omega (arith, t .forward)) (omega (arith, t .forward)))
 
 pub enough : (j k : ℕ) (s : List ℕ) (at n : ℕ) (st : Station) → length s < at + j → length s < at + k → textFrom j s at n st ≡ textFrom k s at n st
 unfolding textFrom goesOn outcome
@@ -99,7 +122,7 @@ pub record Sound (s : List ℕ) (r : Run) : Type 0 where
 
 follow : (k : ℕ) (s : List ℕ) (r : Run) (b : Bool) → goesOn (recordAt s (r .at)) ≡ b → length s ≤ 65536 → Sound s r
     → ((q : Run) → Sound s q → written k s q ≡ textFrom k s (q .at) (q .n) (q .station))
-    → pick b (written k s (advanced s r)) [] ≡ pick b (textFrom k s (placeAfter (recordAt s (r .at)) (r .at)) (r .n + 1) (outcomeNow s r .station)) []
+    → pick b (written k s (advanced s r)) [] ≡ pick b (textFrom k s (nextPlace (recordAt s (r .at)) (r .at)) (r .n + 1) (outcomeNow s r .station)) []
 unfolding advanced
 follow k s r false e small ok later = refl
 follow k s r true e small ok later =

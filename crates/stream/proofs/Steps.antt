@@ -15,11 +15,12 @@ use Rattle.records.specs.Fields.{replyAt}
 use Rattle.records.proofs.Parts.{parts-in-order}
 use Rattle.histories.specs.declared.state.Station.{Station}
 use Rattle.histories.specs.declared.state.Report.{Report}
+use Rattle.histories.specs.Calls.{refused}
 use Rattle.histories.specs.Replies.{Replied}
 use Rattle.stream.specs.declared.obey.Done.{Done}
 use Rattle.stream.specs.Lines.{Within, answerLine, replyLine, reportLine}
 use Rattle.stream.specs.Step.{Outcome, answered, repliedTo, reportedTo, obeyed, Did}
-use Rattle.stream.specs.Run.{outcome, goesOn, placeAfter, Stepped}
+use Rattle.stream.specs.Run.{outcome, goesOn, nextPlace, Stepped}
 use Rattle.stream.proofs.Lengths.{within, within-more, within-of}
 
 -- an outcome by another name
@@ -59,7 +60,7 @@ module _ (s : List ℕ) (n b : ℕ) (st : Station) {kind : ℕ} where
   of-kind e = ap (λ (x : ℕ). obeyed s n x b st) (sym e)
 
   pub of-none : (kind ≡ 1 → ⊥) → (kind ≡ 2 → ⊥) → (kind ≡ 3 → ⊥) → (kind ≡ 4 → ⊥) → (kind ≡ 5 → ⊥) → (kind ≡ 6 → ⊥) → (kind ≡ 7 → ⊥) → (kind ≡ 8 → ⊥) → (kind ≡ 9 → ⊥)
-      → answered n kind (record { number = 16; station = st }) ≡ obeyed s n kind b st
+      → answered n kind (refused 16 st) ≡ obeyed s n kind b st
   unfolding obeyed
   of-none e1 e2 e3 e4 e5 e6 e7 e8 e9 =
       rw (ne-eqb kind 1 e1, ne-eqb kind 2 e2, ne-eqb kind 3 e3, ne-eqb kind 4 e4, ne-eqb kind 5 e5, ne-eqb kind 6 e6, ne-eqb kind 7 e7, ne-eqb kind 8 e8, ne-eqb kind 9 e9)
@@ -68,24 +69,24 @@ module _ (s : List ℕ) (n b : ℕ) (st : Station) {kind : ℕ} where
 
 module _ (s : List ℕ) (at n : ℕ) (st : Station) {l : List ℕ} where
   step-as : (f : Found) {m : List ℕ} {k : ℕ} → recordAt s at ≡ f → Within 9252 (outcome s n st f .lines) 0 l m k
-      → Stepped s at n st l m (record { station = outcome s n st f .station; more = goesOn f; next = placeAfter f at; size = k })
+      → Stepped s at n st l m (record { station = outcome s n st f .station; more = goesOn f; next = nextPlace f at; size = k })
   step-as f h w = record { station = rw h; more = rw h; next = rw h; lines = rw h w }
 
   pub step-end : recordAt s at ≡ End → Stepped s at n st l l (record { station = st; more = false; next = at; size = 0 })
-  unfolding outcome goesOn placeAfter
+  unfolding outcome goesOn nextPlace
   step-end h = step-as End h (within 9252 (omega arith) (put-none 0 l (omega arith)))
 
   pub step-unknown : {kind k : ℕ} {m : List ℕ} → recordAt s at ≡ Unknown kind → Within 36 (answerLine n kind 16) 0 l m k
       → Stepped s at n st l m (record { station = st; more = false; next = at; size = k })
-  unfolding outcome goesOn placeAfter
+  unfolding outcome goesOn nextPlace
   step-unknown {kind} h w = step-as (Unknown kind) h (within-more 36 9252 (omega arith) w)
 
   pub step-cut : {kind k : ℕ} {m : List ℕ} → recordAt s at ≡ Cut kind → Within 36 (answerLine n kind 17) 0 l m k
       → Stepped s at n st l m (record { station = st; more = false; next = at; size = k })
-  unfolding outcome goesOn placeAfter
+  unfolding outcome goesOn nextPlace
   step-cut {kind} h w = step-as (Cut kind) h (within-more 36 9252 (omega arith) w)
 
   pub step-whole : {kind b next : ℕ} {m : List ℕ} {d : Done} → recordAt s at ≡ Whole kind b next → Did (obeyed s n kind b st) l m d
       → Stepped s at n st l m (record { station = d .station; more = true; next = next; size = d .size })
-  unfolding outcome goesOn placeAfter
+  unfolding outcome goesOn nextPlace
   step-whole {kind} {b} {next} h d = rw (d .station) (step-as (Whole kind b next) h (d .lines))

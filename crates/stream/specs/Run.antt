@@ -11,21 +11,18 @@ use Rattle.records.specs.declared.reading.Found.the-variants.{End, Unknown, Cut
 use Rattle.records.specs.Records.{recordAt}
 use Rattle.histories.specs.declared.state.Station.{Station}
 use Rattle.histories.specs.State.{blank}
+use Rattle.histories.specs.Calls.{refused}
 use Rattle.stream.specs.declared.step.Step.{Step}
 use Rattle.stream.specs.declared.run.Run.{Run}
-use Rattle.stream.specs.Lines.{Within, answerLine}
-use Rattle.stream.specs.Step.{Outcome, obeyed}
+use Rattle.stream.specs.Lines.{Within}
+use Rattle.stream.specs.Step.{Outcome, answered, obeyed}
 
 -- ---- what stands at a place of the stream
--- a refusal that is judged before the body: the station stays as it is
-abbrev pub ended : ℕ → ℕ → ℕ → Station → Outcome
-ended n kind number st = record { lines = answerLine n kind number; station = st }
-
 -- as record n: nothing; "unknown record kind"; "record cut by the end of the stream"; what a whole record does
 unfoldable pub outcome : List ℕ → ℕ → Station → Found → Outcome
 outcome s n st End = record { lines = []; station = st }
-outcome s n st (Unknown b) = ended n b 16 st
-outcome s n st (Cut kind) = ended n kind 17 st
+outcome s n st (Unknown b) = answered n b (refused 16 st)
+outcome s n st (Cut kind) = answered n kind (refused 17 st)
 outcome s n st (Whole kind body next) = obeyed s n kind body st
 
 -- "kinds 16 and 17 of refusal end the run", as the end of the stream does
@@ -36,17 +33,17 @@ goesOn (Cut kind) = false
 goesOn (Whole kind body next) = true
 
 -- the place of the next record
-unfoldable pub placeAfter : Found → ℕ → ℕ
-placeAfter End at = at
-placeAfter (Unknown b) at = at
-placeAfter (Cut kind) at = at
-placeAfter (Whole kind body next) at = next
+unfoldable pub nextPlace : Found → ℕ → ℕ
+nextPlace End at = at
+nextPlace (Unknown b) at = at
+nextPlace (Cut kind) at = at
+nextPlace (Whole kind body next) at = next
 
 -- a step did what the definition says of what stands at the place
 pub record Stepped (s : List ℕ) (at n : ℕ) (st : Station) (before after : List ℕ) (r : Step) : Type 0 where
   pub station : r .station ≡ outcome s n st (recordAt s at) .station
   pub more : r .more ≡ goesOn (recordAt s at)
-  pub next : r .next ≡ placeAfter (recordAt s at) at
+  pub next : r .next ≡ nextPlace (recordAt s at) at
   pub lines : Within 9252 (outcome s n st (recordAt s at) .lines) 0 before after (r .size)
 
 -- ---- the text of a stream
@@ -56,7 +53,7 @@ textFrom zero s at n st = []
 textFrom (suc k) s at n st =
     let f = recordAt s at in
     let o = outcome s n st f in
-    o .lines ++ pick (goesOn f) (textFrom k s (placeAfter f at) (n + 1) (o .station)) []
+    o .lines ++ pick (goesOn f) (textFrom k s (nextPlace f at) (n + 1) (o .station)) []
 
 -- "the first 64 KiB of standard input as the whole stream": every record has a byte of its own, so 65,537 are more than there are
 unfoldable pub transcript : List ℕ → List ℕ
@@ -76,7 +73,7 @@ unfoldable pub advanced : List ℕ → Run → Run
 advanced s r =
     record {
       station = outcomeNow s r .station;
-      at = placeAfter (recordAt s (r .at)) (r .at);
+      at = nextPlace (recordAt s (r .at)) (r .at);
       n = (r .n + 1) % 2 ^ 32;
       more = goesOn (recordAt s (r .at));
       size = length (outcomeNow s r .lines);
@@ -88,6 +85,13 @@ written zero s r = []
 written (suc k) s r =
     let q = advanced s r in
     outcomeNow s r .lines ++ pick (q .more) (written k s q) []
+
+-- the run after at most k steps more
+unfoldable pub runAfter : ℕ → List ℕ → Run → Run
+runAfter zero s r = r
+runAfter (suc k) s r =
+    let later = runAfter k s (advanced s r) in
+    pick (r .more) later r
 
 -- a step answered as defined, and the very bytes of the record's lines stand at the front of the buffer, which has room for them
 pub record Advanced (s : List ℕ) (r : Run) (before after : List ℕ) (q : Run) : Type 0 where

@@ -11,7 +11,7 @@ use Rattle.histories.specs.declared.state.Station.{Station}
 use Rattle.histories.specs.declared.state.Answer.{Answer}
 use Rattle.histories.specs.declared.state.Report.{Report}
 use Rattle.histories.specs.State.{entriesOf}
-use Rattle.histories.specs.Calls.{setUp, newTarget, removed, moved, requested, reported}
+use Rattle.histories.specs.Calls.{refused, setUp, newTarget, removed, moved, requested, reported}
 use Rattle.histories.specs.Planning.{nextPlan}
 use Rattle.histories.specs.Replies.{Replied, replied}
 use Rattle.stream.specs.declared.obey.Done.{Done}
@@ -57,7 +57,8 @@ replyTo s kind b st out =
 abbrev pub zeros : ℕ → List ℕ
 zeros kind = replicate (messageLength kind) 0
 
--- record n, of a kind and with its body at the place b, in a station; "unknown record kind" is 16
+-- record n, of a kind and with its body at the place b, in a station: 1 setup; 2 new target; 3 remove; 4 request; 5 plan; 6 short reply;
+-- 7 long reply; 8 report; 9 move; an unknown kind is refused by 16 before its body, and does nothing here either
 unfoldable pub obeyed : List ℕ → ℕ → ℕ → ℕ → Station → Outcome
 obeyed s n kind b st =
     pick (eqb kind 1) (answered n 1 (setUp st (setupAt s b)))
@@ -69,7 +70,7 @@ obeyed s n kind b st =
     (pick (eqb kind 7) (repliedTo n 7 (replyTo s 7 b st (zeros 7)))
     (pick (eqb kind 8) (reportedTo n st (reported st (addressAt s b)))
     (pick (eqb kind 9) (answered n 9 (moved st (edgesAt s b .address) (edgesAt s b .near) (edgesAt s b .far)))
-    (answered n kind (record { number = 16; station = st }))))))))))
+    (answered n kind (refused 16 st))))))))))
 
 -- a call did what the definition says: the station afterwards, and the lines at the front of the buffer, of which there are at most 9,252 bytes
 pub record Did (o : Outcome) (before after : List ℕ) (r : Done) : Type 0 where

@@ -1,6 +1,6 @@
 // The run of a stream, one record after the other.
 ghost use mathlib.Core.Path.{_≡_};
-ghost use lib.ListN.{length};
+ghost use lib.ListN.{length, replicate};
 ghost use Rattle.stream.specs.Run.{begun, Advanced};
 use crate::step::put_step;
 use histories::Station;
@@ -28,8 +28,9 @@ pub fn begin() -> Run
     }
 }
 
-// Room for the lines of any record.
+// Room for the lines of any record: zeros.
 pub fn room() -> [u8; 9300]
+    ensures { λ r. ⌜ r ≡ replicate 9300 0 ⌝ }
     ensures { λ r. ⌜ 9300 ≡ length r ⌝ }
 {
     [0; 9300]
