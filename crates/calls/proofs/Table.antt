@@ -16,7 +16,7 @@ use Rattle.calls.specs.Help.{helpText}
 use Rattle.calls.specs.Names.{Named, named, table, commandIn, commandOf, rowCount, rowAt, wordsFor}
 
 -- the names as the words of one text
-pub names-are : (k : ℕ) → getD (wordsOf (plain "remainder overlay correct build allcall up down code feet help")) k [] ≡ rowAt k .name
+pub names-are : (k : ℕ) → getD (wordsOf (plain "remainder overlay correct build allcall up down code feet model queue send state help")) k [] ≡ rowAt k .name
 unfolding wordsOf parts full grown blank table rowAt
 names-are k = List·getD-map (λ (n : Named). n .name) table k (named "" Unknown)
 
@@ -56,10 +56,10 @@ unfolding table commandIn
 no-rows w k e h = rw h at e
 
 -- the lines of help begin with the names, in the table's order, and each has as many words as a line of its call
-pub help-named : map (λ (l : List ℕ). word 0 (wordsOf l)) (linesOf helpText) ≡ map (λ (n : Named). n .name) (take 9 table)
+pub help-named : map (λ (l : List ℕ). word 0 (wordsOf l)) (linesOf helpText) ≡ map (λ (n : Named). n .name) (take 13 table)
 unfolding word wordsOf linesOf parts full grown blank newline table
 help-named = refl
 
-pub help-counted : map (λ (l : List ℕ). length (wordsOf l)) (linesOf helpText) ≡ map (λ (n : Named). wordsFor (n .command)) (take 9 table)
+pub help-counted : map (λ (l : List ℕ). length (wordsOf l)) (linesOf helpText) ≡ map (λ (n : Named). wordsFor (n .command)) (take 13 table)
 unfolding wordsOf linesOf parts full grown blank newline table wordsFor
 help-counted = refl

@@ -7,7 +7,7 @@ use Rattle.lists.specs.Lists.{pick}
 use Rattle.text.specs.Line.{sameAs}
 use Rattle.text.specs.Plain.{plain}
 use Rattle.calls.specs.declared.names.Command.{Command}
-use Rattle.calls.specs.declared.names.Command.the-variants.{Remainder, Overlay, Correct, Build, AllCall, Up, Down, Code, Feet, Help, Unknown}
+use Rattle.calls.specs.declared.names.Command.the-variants.{Remainder, Overlay, Correct, Build, AllCall, Up, Down, Code, Feet, Model, Queue, Send, State, Help, Unknown}
 
 -- a call and its name
 pub record Named : Type 0 where
@@ -29,11 +29,15 @@ table =
     named "down" Down ∷
     named "code" Code ∷
     named "feet" Feet ∷
+    named "model" Model ∷
+    named "queue" Queue ∷
+    named "send" Send ∷
+    named "state" State ∷
     named "help" Help ∷ []
 
 -- how many they are
 abbrev pub rowCount : ℕ
-rowCount = 10
+rowCount = 14
 
 -- the call that a word names, by the first of the rows with that name; an unknown one where there is none
 unfoldable pub commandIn : List ℕ → List Named → Command
@@ -58,5 +62,9 @@ wordsFor Up = 2
 wordsFor Down = 2
 wordsFor Code = 5
 wordsFor Feet = 2
+wordsFor Model = 6
+wordsFor Queue = 2
+wordsFor Send = 4
+wordsFor State = 1
 wordsFor Help = 1
 wordsFor Unknown = 0

@@ -1,45 +1,63 @@
 // The lines of the console: the call that a line's first word names, and the lines of an input one after the other.
 ghost use mathlib.Core.Path.{_≡_};
-ghost use Rattle.text.specs.Put.{Put};
 ghost use Rattle.text.specs.Line.{wordsOf};
-ghost use Rattle.text.specs.Run.{TookLine};
 ghost use Rattle.commands.specs.Texts.{word};
-ghost use Rattle.calls.specs.Console.{callText, commandText, comment, lineText};
+ghost use Rattle.aircraft.specs.Lines.{Showed};
+ghost use Rattle.calls.specs.Console.{Answered, callSaid, commandSaid, comment, lineSaid};
 use crate::help::put_help;
 use crate::names::Command;
 use crate::names::find_command;
 use crate::names::words_for;
-use text::Lined;
+use aircraft::Aircraft;
+use aircraft::Shown;
 
-// What a call prints for a line with its number of words.
-fn put_call(c: Command, line: &[u8], out: &mut [u8]) -> usize
-    ensures { λ r. ⌜ Put (callText c (wordsOf (now (line .entry)))) 0 (now (out .entry)) (now (out .exit)) r ⌝ }
+// A line was answered: the place of the next one, how many bytes of text stand in the lent buffer, and the aircraft afterwards.
+pub struct Answer {
+    pub next: usize,
+    pub size: usize,
+    pub aircraft: Aircraft,
+}
+
+// A text was laid, and the aircraft stays as it was.
+fn stay(size: usize, a: Aircraft) -> Shown
+    ensures { λ r. ⌜ r ≡ record { size = size; aircraft = a } ⌝ }
+{
+    Shown { size, aircraft: a }
+}
+
+// What a call says for a line with its number of words.
+fn put_call(c: Command, line: &[u8], a: Aircraft, out: &mut [u8]) -> Shown
+    ensures { λ r. ⌜ Showed (callSaid c a (wordsOf (now (line .entry)))) (now (out .entry)) (now (out .exit)) r ⌝ }
 {
     match c {
-        Command::Remainder => commands::put_remainder(line, out),
-        Command::Overlay => commands::put_overlay(line, out),
-        Command::Correct => commands::put_correct(line, out),
-        Command::Build => commands::put_build(line, out),
-        Command::AllCall => commands::put_all_call_frame(line, out),
-        Command::Up => commands::put_up(line, out),
-        Command::Down => commands::put_down(line, out),
-        Command::Code => commands::put_code(line, out),
-        Command::Feet => commands::put_feet(line, out),
-        Command::Help => put_help(out),
-        Command::Unknown => commands::put_unread(out),
+        Command::Remainder => stay(commands::put_remainder(line, out), a),
+        Command::Overlay => stay(commands::put_overlay(line, out), a),
+        Command::Correct => stay(commands::put_correct(line, out), a),
+        Command::Build => stay(commands::put_build(line, out), a),
+        Command::AllCall => stay(commands::put_all_call_frame(line, out), a),
+        Command::Up => stay(commands::put_up(line, out), a),
+        Command::Down => stay(commands::put_down(line, out), a),
+        Command::Code => stay(commands::put_code(line, out), a),
+        Command::Feet => stay(commands::put_feet(line, out), a),
+        Command::Model => aircraft::put_model(line, a, out),
+        Command::Queue => aircraft::put_queue(line, a, out),
+        Command::Send => aircraft::put_send(line, a, out),
+        Command::State => aircraft::put_state(a, out),
+        Command::Help => stay(put_help(out), a),
+        Command::Unknown => stay(commands::put_unread(out), a),
     }
 }
 
 // The call that the first word names, if the line has its number of words.
-fn put_command(line: &[u8], name: &[u8], out: &mut [u8]) -> usize
+fn put_command(line: &[u8], name: &[u8], a: Aircraft, out: &mut [u8]) -> Shown
     requires { ⌜ now name ≡ word 0 (wordsOf (now line)) ⌝ }
-    ensures { λ r. ⌜ Put (commandText (wordsOf (now (line .entry)))) 0 (now (out .entry)) (now (out .exit)) r ⌝ }
+    ensures { λ r. ⌜ Showed (commandSaid a (wordsOf (now (line .entry)))) (now (out .entry)) (now (out .exit)) r ⌝ }
 {
     let c = find_command(name);
     if text::word_count(line) != words_for(c) {
-        return commands::put_unread(out);
+        return stay(commands::put_unread(out), a);
     }
-    put_call(c, line, out)
+    put_call(c, line, a, out)
 }
 
 // The word begins with a hash sign.
@@ -52,30 +70,36 @@ fn is_comment(word: &[u8]) -> bool
     word[0] == 35
 }
 
-// What a line prints.
-fn put_line(line: &[u8], out: &mut [u8]) -> usize
-    ensures { λ r. ⌜ Put (lineText (now (line .entry))) 0 (now (out .entry)) (now (out .exit)) r ⌝ }
+// What a line says.
+fn put_line(line: &[u8], a: Aircraft, out: &mut [u8]) -> Shown
+    ensures { λ r. ⌜ Showed (lineSaid a (now (line .entry))) (now (out .entry)) (now (out .exit)) r ⌝ }
 {
     if text::word_count(line) == 0 {
-        return 0;
+        return stay(0, a);
     }
     let w = text::nth_word(line, 0);
     let from = w.from;
     let to = w.to;
     if is_comment(&line[from..to]) {
-        return 0;
+        return stay(0, a);
     }
-    put_command(line, &line[from..to], out)
+    put_command(line, &line[from..to], a, out)
 }
 
-// The line of s that begins at a place, as the text that the console prints for it.
-pub fn console_line(s: &[u8], at: usize, out: &mut [u8]) -> Lined
-    ensures { λ r. ⌜ TookLine lineText (now (s .entry)) at (now (out .entry)) (now (out .exit)) r ⌝ }
+// The line of s that begins at a place, as the text that the console prints for it, and the aircraft that it leaves.
+pub fn console_line(a: Aircraft, s: &[u8], at: usize, out: &mut [u8]) -> Answer
+    ensures { λ r. ⌜ Answered a (now (s .entry)) at (now (out .entry)) (now (out .exit)) r ⌝ }
 {
     let line = text::line_at(s, at);
     let from = line.from;
     let to = line.to;
-    let size = put_line(&s[from..to], out);
+    let shown = put_line(&s[from..to], a, out);
     let next = text::line_after(s, to);
-    Lined { next, size }
+    let size = shown.size;
+    let aircraft = shown.aircraft;
+    Answer {
+        next,
+        size,
+        aircraft,
+    }
 }

@@ -3,4 +3,5 @@ mod console;
 mod help;
 mod names;
 
+pub use console::Answer;
 pub use console::console_line;

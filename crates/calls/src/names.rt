@@ -15,6 +15,10 @@ pub enum Command {
     Down,
     Code,
     Feet,
+    Model,
+    Queue,
+    Send,
+    State,
     Help,
     Unknown,
 }
@@ -23,7 +27,8 @@ pub enum Command {
 fn is_name(word: &[u8], k: usize) -> bool
     ensures { λ r. ⌜ r ≡ sameAs (now (word .entry)) (rowAt k .name) ⌝ }
 {
-    let names: &[u8] = b"remainder overlay correct build allcall up down code feet help";
+    let names: &[u8] =
+        b"remainder overlay correct build allcall up down code feet model queue send state help";
     let w = text::nth_word(names, k);
     let from = w.from;
     let to = w.to;
@@ -31,7 +36,7 @@ fn is_name(word: &[u8], k: usize) -> bool
 }
 
 // How many names there are.
-const ROWS: usize = 10;
+const ROWS: usize = 14;
 
 // The calls in the order of their names.
 const COMMANDS: [Command; ROWS] = [
@@ -44,6 +49,10 @@ const COMMANDS: [Command; ROWS] = [
     Command::Down,
     Command::Code,
     Command::Feet,
+    Command::Model,
+    Command::Queue,
+    Command::Send,
+    Command::State,
     Command::Help,
 ];
 
@@ -83,6 +92,10 @@ pub(crate) fn words_for(c: Command) -> usize
         Command::Down => 2,
         Command::Code => 5,
         Command::Feet => 2,
+        Command::Model => 6,
+        Command::Queue => 2,
+        Command::Send => 4,
+        Command::State => 1,
         Command::Help => 1,
         Command::Unknown => 0,
     }

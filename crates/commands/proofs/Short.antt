@@ -1,5 +1,5 @@
 -- The text of every line without a state fits 512 bytes.
-use Prim.Native.Nat.{ℕ, _+_, _≤_, _<_}
+use Prim.Native.Nat.{ℕ, _≤_, _<_}
 use native.Mathlib.Omega.{arith}
 use mathlib.Core.Path.{_≡_, refl}
 use mathlib.Core.Bool.{Bool, true, false, _&&_}
@@ -34,7 +34,7 @@ use Rattle.fields.specs.Frames.{front, sealed, framed}
 use Rattle.fields.specs.Building.{selectiveRanged, allCallRanged, selective, allCall, building, allCalling}
 use Rattle.fields.specs.Codes.{stationRanged, whose, codeOf}
 use Rattle.fields.specs.Reading.{formatOf, readAs, allCallRead, selectiveRead, allCallReplyRead, surveillanceRead, mbPart}
-use Rattle.commands.specs.Texts.{unread, word, withNumber, withBytes, doneText, refusalText, answerText}
+use Rattle.commands.specs.Texts.{unread, word, ofNumber, ofBytes, withNumber, withBytes, doneText, refusalText, answerText}
 use Rattle.commands.specs.Parity.{reckonedText, correctedText, remainderText, overlayText, fixedText, correctText}
 use Rattle.commands.specs.Building.{builtText, selectiveText, buildText, allCallText}
 use Rattle.commands.specs.Frames.{numberText, numbersText, fieldsText, endText, valuesText, readText, interrogationText, replyText, upText, downText, codeWord, whoseText, codeText}
@@ -54,12 +54,12 @@ pub unread-fits : length unread ≤ room
 unread-fits = omega arith
 
 pub with-number-fits : (a : Number) (f : ℕ → List ℕ) → ((n : ℕ) → length (f n) ≤ room) → length (withNumber a f) ≤ room
-unfolding withNumber
+unfolding ofNumber
 with-number-fits (Is n) f h = h n
 with-number-fits Not f h = unread-fits
 
 bytes-by : (w : List ℕ) (o : Option (List ℕ)) (f : List ℕ → List ℕ) → bytesIn w ≡ o → ((bs : List ℕ) → length bs ≤ 32 → length (f bs) ≤ room) → length (withBytes o f) ≤ room
-unfolding withBytes
+unfolding ofBytes
 bytes-by w (some bs) f e h = h bs (bytes-fit w bs e)
 bytes-by w none f e h = unread-fits
 

@@ -20,15 +20,22 @@ unread = plain "?\n"
 unfoldable pub word : ℕ → List (List ℕ) → List ℕ
 word k ws = getD ws k []
 
--- a word that is no number where one belongs cannot be read
-unfoldable pub withNumber : Number → (ℕ → List ℕ) → List ℕ
-withNumber (Is n) text = text n
-withNumber Not text = unread
+-- what is made of the number that a word says, or what stands for a word that is none
+unfoldable pub ofNumber : {A : Type 0} → A → Number → (ℕ → A) → A
+ofNumber other (Is n) said = said n
+ofNumber other Not said = other
 
--- a word that is no bytes where they belong cannot be read
-unfoldable pub withBytes : Option (List ℕ) → (List ℕ → List ℕ) → List ℕ
-withBytes (some bs) text = text bs
-withBytes none text = unread
+-- what is made of the bytes that a word says, or what stands for a word that is none
+unfoldable pub ofBytes : {A : Type 0} → A → Option (List ℕ) → (List ℕ → A) → A
+ofBytes other (some bs) said = said bs
+ofBytes other none said = other
+
+-- a word that is no number, or no bytes, where they belong cannot be read
+abbrev pub withNumber : Number → (ℕ → List ℕ) → List ℕ
+withNumber n text = ofNumber unread n text
+
+abbrev pub withBytes : Option (List ℕ) → (List ℕ → List ℕ) → List ℕ
+withBytes bs text = ofBytes unread bs text
 
 -- ---- printed
 

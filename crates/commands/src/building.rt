@@ -5,7 +5,7 @@ ghost use Rattle.fields.specs.Answers.{said};
 ghost use Rattle.commands.specs.Building.{builtText, selectiveText, buildText, allCallText};
 use crate::answers::put_refusal;
 use crate::answers::put_unread;
-use crate::fields::is_long;
+use crate::values::is_long;
 use crate::words::bytes_at;
 use crate::words::number_at;
 use frames::Built;

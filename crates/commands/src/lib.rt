@@ -4,9 +4,9 @@ mod building;
 mod code;
 mod correction;
 mod feet;
-mod fields;
 mod reading;
 mod reckoning;
+mod values;
 mod words;
 
 pub use answers::put_refusal;

@@ -15,7 +15,9 @@ mod timers;
 
 pub use frames_taken::take;
 pub use making::make;
+pub use messages::count;
 pub use messages::queue;
+pub use timers::locks;
 pub use transponder::Holder;
 pub use transponder::Lock;
 pub use transponder::Made;

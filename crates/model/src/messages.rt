@@ -10,7 +10,7 @@ use transponder::Queued;
 use transponder::Transponder;
 
 // How many messages wait: the count, or all slots where the count is too large.
-fn count(m: Messages) -> usize
+pub fn count(m: Messages) -> usize
     ensures { λ r. ⌜ (r ≡ length (waiting m)) × (r ≤ 8) ⌝ }
 {
     if m.n < 8 {

@@ -35,7 +35,7 @@ pub(crate) fn start(t: Timers, code: Interrogator, time: u32) -> Timers
 }
 
 // Whether a lock that has not lapsed locks.
-fn locks(l: Lock) -> bool
+pub fn locks(l: Lock) -> bool
     ensures { λ r. ⌜ r ≡ locks l ⌝ }
 {
     match l {

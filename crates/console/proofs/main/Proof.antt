@@ -3,16 +3,16 @@ use Prim.Native.Nat.{_-_}
 use mathlib.Core.Path.{_≡_, refl}
 use lib.ListN.{length}
 use Rattle.text.proofs.Laid.{put-count}
-use Rattle.text.proofs.Run.{goes-on}
+use Rattle.calls.proofs.Run.{goes-on}
 use borrow.Author.Needs.{needs}
 use Rattle.console.proofs.main.Statement.{statement}
 use Rattle.console.proofs.main.Tie as tie
 
 abbrev Inv-loop : tie.InvT-loop
-Inv-loop got s text₀ at₀ text at = length text ≡ 512
+Inv-loop got s text₀ aircraft₀ at₀ text aircraft at = length text ≡ 512
 
 abbrev μ-loop : tie.MeasureT-loop
-μ-loop got s text₀ at₀ text at = length s - at
+μ-loop got s text₀ aircraft₀ at₀ text aircraft at = length s - at
 
 large-buffer-requires : tie.Need-large-buffer-requires Inv-loop μ-loop
 large-buffer-requires c κs = search needs
@@ -29,6 +29,9 @@ array-share-prefix-input c = search needs
 slice-aggregate-s : tie.Need-slice-aggregate-s Inv-loop μ-loop
 slice-aggregate-s c = search needs
 
+none-requires : tie.Need-none-requires Inv-loop μ-loop
+none-requires c κs = search needs
+
 loop-holds : tie.Need-loop-holds Inv-loop μ-loop
 loop-holds c = refl
 
@@ -42,13 +45,13 @@ array-share-prefix-text : tie.Need-array-share-prefix-text Inv-loop μ-loop
 array-share-prefix-text c = search needs
 
 slice-aggregate-write-all : tie.Need-slice-aggregate-write-all Inv-loop μ-loop
-slice-aggregate-write-all c = put-count (c .before .before .console-line .ensures .text-put)
+slice-aggregate-write-all c = put-count (c .before .before .console-line .ensures .line-taken .text-put)
 
 write-all-requires : tie.Need-write-all-requires Inv-loop μ-loop
 write-all-requires c κs = search needs
 
 loop-less : tie.Need-loop-less Inv-loop μ-loop
-loop-less c = goes-on _ (c .before .before .before .console-line .ensures) (c .before .before .before .before .before .loop-test .taken)
+loop-less c = goes-on (c .before .before .before .before .console-line .ensures) (c .before .before .before .before .before .before .loop-test .taken)
 
 loop-again : tie.Need-loop-again Inv-loop μ-loop
 loop-again c = search needs
@@ -67,6 +70,7 @@ main-spec =
     read-full-requires
     array-share-prefix-input
     slice-aggregate-s
+    none-requires
     loop-holds
     slice-aggregate-console-line
     console-line-requires

@@ -1,6 +1,5 @@
 -- `console_line` takes the line at a place and goes on behind its newline.
-use Rattle.text.proofs.Run.{took}
-use Rattle.calls.specs.Console.{lineText}
+use Rattle.calls.proofs.Lines.{answered-line}
 use borrow.Author.Needs.{needs}
 use Rattle.calls.proofs.console.console_line.Statement.{statement}
 use Rattle.calls.proofs.console.console_line.Tie as tie
@@ -27,7 +26,7 @@ same-length : tie.Need-same-length
 same-length c = search needs
 
 returns : tie.Need-returns
-returns c = took lineText (c .before .before .before .before .before .before .line-at .ensures) (c .line-after .ensures) (c .before .before .before .put-line .ensures)
+returns c = answered-line _ (c .before .before .before .before .before .before .before .line-at .ensures) (c .before .line-after .ensures) (c .before .before .before .before .put-line .ensures)
 
 pub console-line-spec : {M : Type 1} → statement M
 console-line-spec =

@@ -37,6 +37,18 @@ enum-told-10 c = search needs
 enum-told-11 : tie.Need-enum-told-11
 enum-told-11 c = search needs
 
+enum-told-12 : tie.Need-enum-told-12
+enum-told-12 c = search needs
+
+enum-told-13 : tie.Need-enum-told-13
+enum-told-13 c = search needs
+
+enum-told-14 : tie.Need-enum-told-14
+enum-told-14 c = search needs
+
+enum-told-15 : tie.Need-enum-told-15
+enum-told-15 c = search needs
+
 returns : tie.Need-returns
 unfolding wordsFor
 returns c = rw (c .enum-told .given .1)
@@ -81,6 +93,22 @@ returns-11 : tie.Need-returns-11
 unfolding wordsFor
 returns-11 c = rw (c .enum-told11 .given .1)
 
+returns-12 : tie.Need-returns-12
+unfolding wordsFor
+returns-12 c = rw (c .enum-told12 .given .1)
+
+returns-13 : tie.Need-returns-13
+unfolding wordsFor
+returns-13 c = rw (c .enum-told13 .given .1)
+
+returns-14 : tie.Need-returns-14
+unfolding wordsFor
+returns-14 c = rw (c .enum-told14 .given .1)
+
+returns-15 : tie.Need-returns-15
+unfolding wordsFor
+returns-15 c = rw (c .enum-told15 .given .1)
+
 pub words-for-spec : {M : Type 1} → statement M
 words-for-spec =
     tie.close
@@ -96,6 +124,10 @@ words-for-spec =
     enum-told-9
     enum-told-10
     enum-told-11
+    enum-told-12
+    enum-told-13
+    enum-told-14
+    enum-told-15
     returns
     returns-2
     returns-3
@@ -106,4 +138,8 @@ words-for-spec =
     returns-8
     returns-9
     returns-10
-    returns-11)
+    returns-11
+    returns-12
+    returns-13
+    returns-14
+    returns-15)

@@ -6,7 +6,7 @@ use Rattle.text.specs.Line.{wordsOf}
 use Rattle.text.specs.Number.{numberIn}
 use Rattle.text.specs.declared.answer.Number.the-variants.{Is}
 use Rattle.text.proofs.Laid.{put-of}
-use Rattle.commands.specs.Texts.{word, withNumber}
+use Rattle.commands.specs.Texts.{word, ofNumber}
 use Rattle.commands.specs.Building.{builtText, allCallText}
 use borrow.Author.Needs.{needs}
 use Rattle.commands.proofs.building.put_all_call_frame.Statement.{statement}
@@ -45,7 +45,7 @@ same-length : tie.Need-same-length
 same-length c = search needs
 
 returns : tie.Need-returns
-unfolding allCallText withNumber
+unfolding allCallText ofNumber
 returns c = rw (← (c .before .before .before .before .before .before .number-at .ensures), c .before .before .before .before .enum-told .given .1) (c .before .before .put-unread .ensures)
 
 number-at-requires-2 : tie.Need-number-at-requires-2
@@ -64,7 +64,7 @@ same-length-2 : tie.Need-same-length-2
 same-length-2 c = search needs
 
 returns-2 : tie.Need-returns-2
-unfolding allCallText withNumber
+unfolding allCallText ofNumber
 returns-2 c =
     let p = c .before .before .before .before .before .before .before .before in
     rw (said-pr p, ← (c .before .before .before .before .before .before .number-at2 .ensures), c .before .before .before .before .enum-told2 .given .1) (c .before .before .put-unread2 .ensures)
@@ -85,7 +85,7 @@ same-length-3 : tie.Need-same-length-3
 same-length-3 c = search needs
 
 returns-3 : tie.Need-returns-3
-unfolding allCallText withNumber
+unfolding allCallText ofNumber
 returns-3 c =
     let i = c .before .before .before .before .before .before .before .before in
     let p = i .before .before .before .before in
@@ -107,7 +107,7 @@ same-length-4 : tie.Need-same-length-4
 same-length-4 c = search needs
 
 returns-4 : tie.Need-returns-4
-unfolding allCallText withNumber
+unfolding allCallText ofNumber
 returns-4 c =
     let l = c .before .before .before .before .before .before .before .before .before in
     let i = l .before .before .before .before in

@@ -5,7 +5,7 @@ use mathlib.Core.List.{List}
 use Rattle.text.specs.Line.{wordsOf}
 use Rattle.text.specs.Number.{numberIn}
 use Rattle.text.specs.declared.answer.Number.the-variants.{Is}
-use Rattle.commands.specs.Texts.{word, withBytes, withNumber}
+use Rattle.commands.specs.Texts.{word, ofBytes, ofNumber}
 use Rattle.commands.specs.Building.{buildText}
 use Rattle.commands.proofs.Texts.{Held, held, no-bytes}
 use borrow.Author.Needs.{needs}
@@ -69,7 +69,7 @@ same-length : tie.Need-same-length
 same-length c = search needs
 
 returns : tie.Need-returns
-unfolding buildText withBytes withNumber
+unfolding buildText ofBytes ofNumber
 returns c = rw (← (c .before .before .before .before .before .before .number-at .ensures), c .before .before .before .before .enum-told .given .1) (c .before .before .put-unread .ensures)
 
 number-at-requires-2 : tie.Need-number-at-requires-2
@@ -88,7 +88,7 @@ same-length-2 : tie.Need-same-length-2
 same-length-2 c = search needs
 
 returns-2 : tie.Need-returns-2
-unfolding buildText withBytes withNumber
+unfolding buildText ofBytes ofNumber
 returns-2 c =
     let u = c .before .before .before .before .before .before .before .before in
     rw (said-uf u, ← (c .before .before .before .before .before .before .number-at2 .ensures), c .before .before .before .before .enum-told2 .given .1) (c .before .before .put-unread2 .ensures)
@@ -109,7 +109,7 @@ same-length-3 : tie.Need-same-length-3
 same-length-3 c = search needs
 
 returns-3 : tie.Need-returns-3
-unfolding buildText withBytes withNumber
+unfolding buildText ofBytes ofNumber
 returns-3 c =
     let p = c .before .before .before .before .before .before .before .before in
     let u = p .before .before .before .before in
@@ -131,7 +131,7 @@ same-length-4 : tie.Need-same-length-4
 same-length-4 c = search needs
 
 returns-4 : tie.Need-returns-4
-unfolding buildText withBytes withNumber
+unfolding buildText ofBytes ofNumber
 returns-4 c =
     let r = c .before .before .before .before .before .before .before .before in
     let p = r .before .before .before .before in
@@ -154,7 +154,7 @@ same-length-5 : tie.Need-same-length-5
 same-length-5 c = search needs
 
 returns-5 : tie.Need-returns-5
-unfolding buildText withBytes withNumber
+unfolding buildText ofBytes ofNumber
 returns-5 c =
     let d = c .before .before .before .before .before .before .before .before in
     let r = d .before .before .before .before in
@@ -178,7 +178,7 @@ same-length-6 : tie.Need-same-length-6
 same-length-6 c = search needs
 
 returns-6 : tie.Need-returns-6
-unfolding buildText withBytes withNumber
+unfolding buildText ofBytes ofNumber
 returns-6 c =
     let s = c .before .before .before .before .before .before .before .before .before in
     let d = s .before .before .before .before in
@@ -203,7 +203,7 @@ same-length-7 : tie.Need-same-length-7
 same-length-7 c = search needs
 
 returns-7 : tie.Need-returns-7
-unfolding buildText withBytes withNumber
+unfolding buildText ofBytes ofNumber
 returns-7 c =
     let n = c .before .before .before .before .before .before .before .before in
     let s = n .before .before .before .before .before in
@@ -226,7 +226,7 @@ same-length-8 : tie.Need-same-length-8
 same-length-8 c = search needs
 
 returns-8 : tie.Need-returns-8
-unfolding buildText withBytes withNumber
+unfolding buildText ofBytes ofNumber
 returns-8 c =
     let a = c .before .before .before .before .before .before in
     let n = a .before .before .before .before in

@@ -6,7 +6,7 @@ use Rattle.text.specs.Line.{wordsOf}
 use Rattle.text.specs.Number.{numberIn}
 use Rattle.text.specs.declared.answer.Number.the-variants.{Is}
 use Rattle.text.proofs.Laid.{put-of}
-use Rattle.commands.specs.Texts.{word, withBytes, withNumber}
+use Rattle.commands.specs.Texts.{word, ofBytes, ofNumber}
 use Rattle.commands.specs.Frames.{whoseText, codeText}
 use Rattle.commands.proofs.Texts.{Held, held, no-bytes}
 use borrow.Author.Needs.{needs}
@@ -52,7 +52,7 @@ same-length : tie.Need-same-length
 same-length c = search needs
 
 returns : tie.Need-returns
-unfolding codeText withBytes withNumber
+unfolding codeText ofBytes ofNumber
 returns c = rw (no-bytes (c .before .before .before .before .before .before .bytes-at .ensures) (c .before .before .before .before .enum-told .given .1)) (c .before .before .put-unread .ensures)
 
 number-at-requires : tie.Need-number-at-requires
@@ -71,7 +71,7 @@ same-length-2 : tie.Need-same-length-2
 same-length-2 c = search needs
 
 returns-2 : tie.Need-returns-2
-unfolding codeText withBytes withNumber
+unfolding codeText ofBytes ofNumber
 returns-2 c =
     let n = c .before .before .before .before .before .before .before .before in
     rw (message n .said, ← (c .before .before .before .before .before .before .number-at .ensures), c .before .before .before .before .enum-told2 .given .1) (c .before .before .put-unread2 .ensures)
@@ -92,7 +92,7 @@ same-length-3 : tie.Need-same-length-3
 same-length-3 c = search needs
 
 returns-3 : tie.Need-returns-3
-unfolding codeText withBytes withNumber
+unfolding codeText ofBytes ofNumber
 returns-3 c =
     let l = c .before .before .before .before .before .before .before .before in
     let n = l .before .before .before .before in
@@ -114,7 +114,7 @@ same-length-4 : tie.Need-same-length-4
 same-length-4 c = search needs
 
 returns-4 : tie.Need-returns-4
-unfolding codeText withBytes withNumber
+unfolding codeText ofBytes ofNumber
 returns-4 c =
     let i = c .before .before .before .before .before .before .before .before in
     let l = i .before .before .before .before in
@@ -137,7 +137,7 @@ same-length-5 : tie.Need-same-length-5
 same-length-5 c = search needs
 
 returns-5 : tie.Need-returns-5
-unfolding codeText withBytes withNumber
+unfolding codeText ofBytes ofNumber
 returns-5 c =
     let p = c .before .before .before .before .before .before .before in
     let i = p .before .before .before .before in

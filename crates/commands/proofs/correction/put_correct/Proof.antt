@@ -5,7 +5,7 @@ use mathlib.Core.List.{List}
 use Rattle.text.specs.Line.{wordsOf}
 use Rattle.text.specs.Number.{numberIn}
 use Rattle.text.specs.declared.answer.Number.the-variants.{Is}
-use Rattle.commands.specs.Texts.{word, withBytes, withNumber}
+use Rattle.commands.specs.Texts.{word, ofBytes, ofNumber}
 use Rattle.commands.specs.Parity.{correctText}
 use Rattle.commands.proofs.Texts.{Held, held, no-bytes, zeros, zeros-count}
 use borrow.Author.Needs.{needs}
@@ -51,7 +51,7 @@ same-length : tie.Need-same-length
 same-length c = search needs
 
 returns : tie.Need-returns
-unfolding correctText withBytes withNumber
+unfolding correctText ofBytes ofNumber
 returns c = rw (no-bytes (c .before .before .before .before .before .before .bytes-at .ensures) (c .before .before .before .before .enum-told .given .1)) (c .before .before .put-unread .ensures)
 
 bytes-at-requires-2 : tie.Need-bytes-at-requires-2
@@ -70,7 +70,7 @@ same-length-2 : tie.Need-same-length-2
 same-length-2 c = search needs
 
 returns-2 : tie.Need-returns-2
-unfolding correctText withBytes withNumber
+unfolding correctText ofBytes ofNumber
 returns-2 c =
     let n = c .before .before .before .before .before .before .before .before .before in
     rw (message n .said, no-bytes (c .before .before .before .before .before .before .bytes-at2 .ensures) (c .before .before .before .before .enum-told2 .given .1)) (c .before .before .put-unread2 .ensures)
@@ -91,7 +91,7 @@ same-length-3 : tie.Need-same-length-3
 same-length-3 c = search needs
 
 returns-3 : tie.Need-returns-3
-unfolding correctText withBytes withNumber
+unfolding correctText ofBytes ofNumber
 returns-3 c =
     let m = c .before .before .before .before .before .before .before .before in
     let n = m .before .before .before .before .before in
@@ -113,7 +113,7 @@ same-length-4 : tie.Need-same-length-4
 same-length-4 c = search needs
 
 returns-4 : tie.Need-returns-4
-unfolding correctText withBytes withNumber
+unfolding correctText ofBytes ofNumber
 returns-4 c =
     let o = c .before .before .before .before .before .before .before .before in
     let m = o .before .before .before .before in
@@ -145,7 +145,7 @@ same-length-5 : tie.Need-same-length-5
 same-length-5 c = search needs
 
 returns-5 : tie.Need-returns-5
-unfolding correctText withBytes withNumber
+unfolding correctText ofBytes ofNumber
 returns-5 c =
     let l = c .before .before .before .before .before .before .before .before .before in
     let o = l .before .before .before .before in

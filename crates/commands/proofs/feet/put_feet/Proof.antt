@@ -1,5 +1,5 @@
 -- `put_feet` reads one number, and lays the answer for it.
-use Rattle.commands.specs.Texts.{withNumber}
+use Rattle.commands.specs.Texts.{ofNumber}
 use Rattle.commands.specs.Feet.{feetText}
 use borrow.Author.Needs.{needs}
 use Rattle.commands.proofs.feet.put_feet.Statement.{statement}
@@ -24,14 +24,14 @@ same-length : tie.Need-same-length
 same-length c = search needs
 
 returns : tie.Need-returns
-unfolding feetText withNumber
+unfolding feetText ofNumber
 returns c = rw (← (c .before .before .before .before .before .before .before .number-at .ensures), c .before .before .before .before .before .ac .given .1) (c .before .before .put-answer .ensures)
 
 same-length-2 : tie.Need-same-length-2
 same-length-2 c = search needs
 
 returns-2 : tie.Need-returns-2
-unfolding feetText withNumber
+unfolding feetText ofNumber
 returns-2 c = rw (← (c .before .before .before .before .before .before .number-at .ensures), c .before .before .before .before .enum-told .given .1) (c .before .before .put-unread .ensures)
 
 pub put-feet-spec : {M : Type 1} → statement M

@@ -1,7 +1,7 @@
 -- `put_down` reads one word of bytes, and lays what they are as a reply.
 use mathlib.Core.Path.{refl}
 use Rattle.text.specs.Line.{wordsOf}
-use Rattle.commands.specs.Texts.{word, withBytes}
+use Rattle.commands.specs.Texts.{word, ofBytes}
 use Rattle.commands.specs.Frames.{downText}
 use Rattle.commands.proofs.Texts.{Held, held, no-bytes}
 use borrow.Author.Needs.{needs}
@@ -36,14 +36,14 @@ same-length : tie.Need-same-length
 same-length c = search needs
 
 returns : tie.Need-returns
-unfolding downText withBytes
+unfolding downText ofBytes
 returns c = rw (message (c .before .before .before .before .before .before) .said) (c .before .before .put-reply .ensures)
 
 same-length-2 : tie.Need-same-length-2
 same-length-2 c = search needs
 
 returns-2 : tie.Need-returns-2
-unfolding downText withBytes
+unfolding downText ofBytes
 returns-2 c = rw (no-bytes (c .before .before .before .before .before .before .bytes-at .ensures) (c .before .before .before .before .enum-told .given .1)) (c .before .before .put-unread .ensures)
 
 pub put-down-spec : {M : Type 1} → statement M

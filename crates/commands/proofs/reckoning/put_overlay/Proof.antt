@@ -1,7 +1,7 @@
 -- `put_overlay` reads one number, and lays the answer for it.
 use mathlib.Core.Path.{ap}
 use Rattle.text.proofs.Laid.{put-of}
-use Rattle.commands.specs.Texts.{withNumber}
+use Rattle.commands.specs.Texts.{ofNumber}
 use Rattle.commands.specs.Parity.{overlayText, reckonedText}
 use borrow.Author.Needs.{needs}
 use Rattle.commands.proofs.reckoning.put_overlay.Statement.{statement}
@@ -29,14 +29,14 @@ same-length : tie.Need-same-length
 same-length c = search needs
 
 returns : tie.Need-returns
-unfolding overlayText withNumber
+unfolding overlayText ofNumber
 returns c = rw (← (c .before .before .before .before .before .before .before .before .number-at .ensures), c .before .before .before .before .before .before .address .given .1) (put-of (ap reckonedText (c .before .before .before .uplink-overlay .ensures)) (c .before .before .put-reckoned .ensures))
 
 same-length-2 : tie.Need-same-length-2
 same-length-2 c = search needs
 
 returns-2 : tie.Need-returns-2
-unfolding overlayText withNumber
+unfolding overlayText ofNumber
 returns-2 c = rw (← (c .before .before .before .before .before .before .number-at .ensures), c .before .before .before .before .enum-told .given .1) (c .before .before .put-unread .ensures)
 
 pub put-overlay-spec : {M : Type 1} → statement M

@@ -2,7 +2,7 @@
 use mathlib.Core.Path.{refl, ap}
 use Rattle.text.specs.Line.{wordsOf}
 use Rattle.text.proofs.Laid.{put-of}
-use Rattle.commands.specs.Texts.{word, withBytes}
+use Rattle.commands.specs.Texts.{word, ofBytes}
 use Rattle.commands.specs.Parity.{remainderText, reckonedText}
 use Rattle.commands.proofs.Texts.{Held, held, no-bytes}
 use borrow.Author.Needs.{needs}
@@ -40,14 +40,14 @@ same-length : tie.Need-same-length
 same-length c = search needs
 
 returns : tie.Need-returns
-unfolding remainderText withBytes
+unfolding remainderText ofBytes
 returns c = rw (message (c .before .before .before .before .before .before .before) .said) (put-of (ap reckonedText (c .before .before .before .remainder .ensures)) (c .before .before .put-reckoned .ensures))
 
 same-length-2 : tie.Need-same-length-2
 same-length-2 c = search needs
 
 returns-2 : tie.Need-returns-2
-unfolding remainderText withBytes
+unfolding remainderText ofBytes
 returns-2 c = rw (no-bytes (c .before .before .before .before .before .before .bytes-at .ensures) (c .before .before .before .before .enum-told .given .1)) (c .before .before .put-unread .ensures)
 
 pub put-remainder-spec : {M : Type 1} → statement M

@@ -4,8 +4,8 @@ use borrow.Author.Tests.{not-true, not-false}
 use Rattle.text.proofs.Laid.{put-then}
 use Rattle.commands.specs.Frames.{endText}
 use borrow.Author.Needs.{needs}
-use Rattle.commands.proofs.fields.put_end.Statement.{statement}
-use Rattle.commands.proofs.fields.put_end.Tie as tie
+use Rattle.commands.proofs.values.put_end.Statement.{statement}
+use Rattle.commands.proofs.values.put_end.Tie as tie
 
 is-long-requires : tie.Need-is-long-requires
 is-long-requires c κs = search needs

@@ -1,7 +1,7 @@
 -- `is_long` compares with the two numbers.
 use borrow.Author.Tests.{eq-eqb, ne-eqb}
-use Rattle.commands.proofs.fields.is_long.Statement.{statement}
-use Rattle.commands.proofs.fields.is_long.Tie as tie
+use Rattle.commands.proofs.values.is_long.Statement.{statement}
+use Rattle.commands.proofs.values.is_long.Tie as tie
 
 returns : tie.Need-returns
 returns c = simp (eq-eqb _ _ (c .if1 .taken))

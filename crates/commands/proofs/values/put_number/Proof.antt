@@ -2,8 +2,8 @@
 use Rattle.text.proofs.Laid.{put-then}
 use Rattle.commands.specs.Frames.{numberText}
 use borrow.Author.Needs.{needs}
-use Rattle.commands.proofs.fields.put_number.Statement.{statement}
-use Rattle.commands.proofs.fields.put_number.Tie as tie
+use Rattle.commands.proofs.values.put_number.Statement.{statement}
+use Rattle.commands.proofs.values.put_number.Tie as tie
 
 put-decimal-requires : tie.Need-put-decimal-requires
 put-decimal-requires c κs = search needs

@@ -3,8 +3,8 @@ use Rattle.text.proofs.Laid.{put-then}
 use Rattle.commands.specs.Texts.{doneText}
 use Rattle.commands.specs.Frames.{numbersText, valuesText}
 use borrow.Author.Needs.{needs}
-use Rattle.commands.proofs.fields.put_seven.Statement.{statement}
-use Rattle.commands.proofs.fields.put_seven.Tie as tie
+use Rattle.commands.proofs.values.put_seven.Statement.{statement}
+use Rattle.commands.proofs.values.put_seven.Tie as tie
 
 slice-aggregate-put-bytes : tie.Need-slice-aggregate-put-bytes
 slice-aggregate-put-bytes c = search needs

@@ -1,0 +1,61 @@
+-- The text of every line of the aircraft fits 512 bytes, where its numbers have the bits of their types.
+use Prim.Native.Nat.{ℕ, suc, _+_, _-_, _*_, _≤_, _<_}
+use native.Mathlib.Omega.{arith}
+use mathlib.Core.Path.{_≡_}
+use mathlib.Core.Bool.{Bool, true, false}
+use mathlib.Core.List.{List, [], _∷_, _++_}
+use lib.Dec.{ltb}
+use lib.ListN.{length, length-append}
+use Rattle.lists.specs.Lists.{pick}
+use Rattle.text.specs.Put.{decimal}
+use Rattle.text.specs.Plain.{plain}
+use Rattle.text.proofs.Decimal.{decimal-length, decimal-fits}
+use Rattle.text.proofs.HexMade.{hex-of-length}
+use Rattle.commands.specs.Texts.{doneText, refusalText}
+use Rattle.transponder.specs.declared.state.Lock.{Lock}
+use Rattle.transponder.specs.declared.state.Timer.{Timer}
+use Rattle.transponder.specs.declared.state.Transponder.{Transponder}
+use Rattle.transponder.specs.Lockout.{locks}
+use Rattle.transponder.specs.State.{waiting}
+use Rattle.aircraft.specs.Lines.{replyText, holderText, codeText, lockText, locksText, stateText}
+
+pub refusal-fits : (n : ℕ) → n < 256 → length (refusalText n) ≤ 512
+unfolding refusalText
+refusal-fits n h = simp length-append (omega (arith, decimal-length 2 n (omega arith)))
+
+pub reply-fits : (l : List ℕ) → length l ≤ 14 → length (doneText (replyText l)) ≤ 512
+unfolding doneText replyText
+reply-fits [] h = omega arith
+reply-fits (b ∷ l) h = simp length-append (omega (arith, hex-of-length (b ∷ l)))
+
+-- ---- the locked codes: five bytes each at most
+
+code-fits : (k : ℕ) → k < 79 → length (codeText k) ≤ 5
+unfolding codeText
+code-fits k h = go (ltb k 16)
+  where
+    go : (t : Bool) → length (pick t (plain " II" ++ decimal k) (plain " SI" ++ decimal (k - 15))) ≤ 5
+    go true = simp length-append (omega (arith, decimal-length 1 k (omega arith)))
+    go false = simp length-append (omega (arith, decimal-length 1 (k - 15) (omega arith)))
+
+lock-fits : (k : ℕ) (l : Lock) → k < 79 → length (lockText k l) ≤ 5
+unfolding lockText
+lock-fits k l h = go (locks l)
+  where
+    go : (t : Bool) → length (pick t (codeText k) []) ≤ 5
+    go true = code-fits k h
+    go false = omega arith
+
+locks-fit : (k : ℕ) (ts : List Timer) → k + length ts ≤ 79 → length (locksText k ts) ≤ 5 * length ts
+unfolding locksText
+locks-fit k [] h = omega arith
+locks-fit k (t ∷ ts) h = simp length-append (omega (arith, lock-fits k (t .lock) (omega arith), locks-fit (suc k) ts (omega arith)))
+
+-- the longest line: 79 locked codes
+pub state-fits : (t : Transponder) → t .time < 4294967296 → length (holderText (t .holder)) ≤ 3 → length (waiting (t .messages)) ≤ 8 → length (t .timers .list) ≡ 79
+    → length (stateText t) ≤ 512
+unfolding stateText doneText
+state-fits t h a b e =
+    simp length-append
+    (omega
+    (arith, decimal-fits (t .time) h, a, decimal-length 0 (length (waiting (t .messages))) (omega arith), locks-fit 0 (t .timers .list) (omega arith)))

@@ -1,0 +1,143 @@
+-- The lines `model ADDRESS AC ID FS CA`, `queue HEX`, `send TIME DRAW HEX` and `state`: what each prints, and the aircraft that it leaves.
+use Prim.Native.Nat.{ℕ, suc, _-_, _≤_}
+use mathlib.Core.Path.{_≡_}
+use mathlib.Core.Bool.{true, false}
+use mathlib.Core.List.{List, [], _∷_, _++_}
+use mathlib.Core.Option.{Option}
+use lib.Dec.{eqb, ltb}
+use lib.ListN.{length, take}
+use Rattle.lists.specs.Lists.{pick}
+use Rattle.text.specs.Put.{Put, decimal}
+use Rattle.text.specs.Plain.{plain}
+use Rattle.text.specs.Number.{numberIn}
+use Rattle.text.specs.Hex.{hexOf, bytesIn}
+use Rattle.text.specs.declared.answer.Number.{Number}
+use Rattle.commands.specs.Texts.{unread, word, ofNumber, ofBytes, doneText, refusalText, answerText}
+use Rattle.transponder.specs.declared.state.Lock.{Lock}
+use Rattle.transponder.specs.declared.state.Timer.{Timer}
+use Rattle.transponder.specs.declared.state.Holder.{Holder}
+use Rattle.transponder.specs.declared.state.Holder.the-variants.{Nobody, Held}
+use Rattle.transponder.specs.declared.state.Transponder.{Transponder}
+use Rattle.transponder.specs.declared.state.Made.{Made}
+use Rattle.transponder.specs.declared.state.Queued.{Queued}
+use Rattle.transponder.specs.declared.state.Took.{Took}
+use Rattle.transponder.specs.State.{waiting}
+use Rattle.transponder.specs.Lockout.{locks}
+use Rattle.transponder.specs.Calls.{newborn, making, queuing, taking}
+use Rattle.aircraft.specs.declared.state.Aircraft.{Aircraft}
+use Rattle.aircraft.specs.declared.state.Shown.{Shown}
+
+-- ---- the aircraft
+
+-- before any model; its transponder of zeros is of no use
+unfoldable pub unmade : Aircraft
+unmade = record { made = false; transponder = newborn 0 0 0 0 0 }
+
+-- one that was made
+abbrev pub flying : Transponder → Aircraft
+flying t = record { made = true; transponder = t }
+
+-- ---- what a line says: the text that it prints, and the aircraft that it leaves
+pub record Said : Type 0 where
+  pub text : List ℕ
+  pub aircraft : Aircraft
+
+-- the text was laid at the front of a buffer, and the answer has the aircraft; the text is at most the 512 bytes that the program lends,
+-- since an aircraft's numbers have the bits of their types
+pub record Showed (s : Said) (before after : List ℕ) (r : Shown) : Type 0 where
+  pub text-put : Put (s .text) 0 before after (r .size)
+  pub aircraft : r .aircraft ≡ s .aircraft
+  pub short : length (s .text) ≤ 512
+
+-- the one with this text and this aircraft
+abbrev pub saying : List ℕ → Aircraft → Said
+saying t a = record { text = t; aircraft = a }
+
+-- a line that cannot be read leaves the aircraft as it was
+abbrev pub unreadSaid : Aircraft → Said
+unreadSaid a = saying unread a
+
+-- a call's number alone, 0 or the refusal's
+abbrev pub numberSaid : ℕ → Aircraft → Said
+numberSaid n a = saying (refusalText n) a
+
+-- a word that is no number, or no bytes, where they belong cannot be read
+abbrev pub withNumber : Aircraft → Number → (ℕ → Said) → Said
+withNumber a n said = ofNumber (unreadSaid a) n said
+
+abbrev pub withBytes : Aircraft → Option (List ℕ) → (List ℕ → Said) → Said
+withBytes a bs said = ofBytes (unreadSaid a) bs said
+
+-- before any model the line cannot be read
+unfoldable pub whenMade : Aircraft → Said → Said
+whenMade a said = pick (a .made) said (unreadSaid a)
+
+-- ---- `model`: "from then on this is the aircraft"; a refused one leaves the aircraft as it was
+unfoldable pub madeSaid : Aircraft → Made → Said
+madeSaid a m = numberSaid (m .number) (pick (eqb (m .number) 0) (flying (m .transponder)) a)
+
+-- the five numbers of the line
+unfoldable pub modelSaid : Aircraft → List (List ℕ) → Said
+modelSaid a ws =
+    withNumber a (numberIn 10 (word 1 ws)) (λ address.
+    withNumber a (numberIn 10 (word 2 ws)) (λ ac.
+    withNumber a (numberIn 10 (word 3 ws)) (λ id.
+    withNumber a (numberIn 10 (word 4 ws)) (λ fs.
+    withNumber a (numberIn 10 (word 5 ws)) (λ ca.
+    madeSaid a (making address ac id fs ca))))))
+
+-- ---- `queue`
+-- the number of the queuing, and the aircraft with what it has left
+unfoldable pub queuedSaid : Queued → Said
+queuedSaid q = numberSaid (q .number) (flying (q .transponder))
+
+-- the message of the line
+unfoldable pub queueSaid : Aircraft → List (List ℕ) → Said
+queueSaid a ws = whenMade a (withBytes a (bytesIn (word 1 ws)) (λ message. queuedSaid (queuing (a .transponder) message)))
+
+-- ---- `send`
+-- the bytes of a reply, or `-` where there is none
+unfoldable pub replyText : List ℕ → List ℕ
+replyText [] = plain "-"
+replyText (b ∷ bs) = hexOf (b ∷ bs)
+
+-- 0 and the reply, or the refusal's number alone, and the aircraft with what the frame has left
+unfoldable pub tookSaid : Took → Said
+tookSaid k = saying (answerText (k .number) (replyText (take (k .length) (k .reply)))) (flying (k .transponder))
+
+-- the time, the draw and the frame of the line
+unfoldable pub sendSaid : Aircraft → List (List ℕ) → Said
+sendSaid a ws =
+    whenMade a
+    (withNumber a (numberIn 10 (word 1 ws)) (λ time.
+    withNumber a (numberIn 10 (word 2 ws)) (λ draw.
+    withBytes a (bytesIn (word 3 ws)) (λ frame.
+    tookSaid (taking (a .transponder) time draw frame)))))
+
+-- ---- `state`
+-- the holder's II, or `-` for nobody
+unfoldable pub holderText : Holder → List ℕ
+holderText Nobody = plain "-"
+holderText (Held ii since) = decimal ii
+
+-- the code of the timer at a place: `II0` to `II15`, then `SI1` to `SI63`
+unfoldable pub codeText : ℕ → List ℕ
+codeText k = pick (ltb k 16) (plain " II" ++ decimal k) (plain " SI" ++ decimal (k - 15))
+
+-- the code if its timer locks
+unfoldable pub lockText : ℕ → Lock → List ℕ
+lockText k l = pick (locks l) (codeText k) []
+
+-- the locked codes of the timers from the place k on, rising
+unfoldable pub locksText : ℕ → List Timer → List ℕ
+locksText k [] = []
+locksText k (t ∷ ts) = lockText k (t .lock) ++ locksText (suc k) ts
+
+-- the time, the holder, how many messages wait, and the locked codes
+unfoldable pub stateText : Transponder → List ℕ
+stateText t =
+    doneText (decimal (t .time) ++ (plain " " ++ (holderText (t .holder) ++ (plain " " ++ (decimal (length (waiting (t .messages))) ++ locksText 0 (t .timers .list))))))
+
+-- nothing changes
+unfoldable pub stateSaid : Aircraft → Said
+stateSaid a = whenMade a (saying (stateText (a .transponder)) a)

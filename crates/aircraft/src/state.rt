@@ -1,0 +1,28 @@
+// The aircraft of the console, and what a line that may change it answers.
+ghost use mathlib.Core.Path.{_≡_};
+ghost use Rattle.aircraft.specs.Lines.{unmade};
+use transponder::Transponder;
+
+// Whether an aircraft was made, and its transponder, which is of no use before.
+pub struct Aircraft {
+    pub made: bool,
+    pub transponder: Transponder,
+}
+
+// A line was answered: how many bytes of text stand in the lent buffer, and the aircraft afterwards.
+pub struct Shown {
+    pub size: usize,
+    pub aircraft: Aircraft,
+}
+
+// No aircraft.
+pub fn none() -> Aircraft
+    ensures { λ r. ⌜ r ≡ unmade ⌝ }
+{
+    let m = model::make(0, 0, 0, 0, 0);
+    let transponder = m.transponder;
+    Aircraft {
+        made: false,
+        transponder,
+    }
+}
