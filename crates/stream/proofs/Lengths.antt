@@ -11,7 +11,7 @@ use Rattle.text.specs.Put.{Put}
 use Rattle.text.specs.Signed.{signedDecimal}
 use Rattle.text.proofs.Decimal.{decimal-fits}
 use Rattle.text.proofs.Laid.{put-then}
-use Rattle.stream.specs.Lines.{Within}
+use Rattle.stream.specs.Calls.{Within}
 
 -- a number of 32 bits with its sign: the sign and ten digits
 pub signed-short : (z : ℤ) → SFits w32 z → length (signedDecimal z) ≤ 11

@@ -9,7 +9,8 @@ use Rattle.text.specs.Put.{decimal}
 use Rattle.planner.specs.declared.entry.Entry.{Entry}
 use Rattle.planner.specs.declared.exchange.Exchange.{Exchange}
 use Rattle.planner.specs.Exchange.{exchangeOf}
-use Rattle.stream.specs.Lines.{Within, line, entryLine, entryLines}
+use Rattle.transcripts.specs.Lines.{line, entryLine, entryLines}
+use Rattle.stream.specs.Calls.{Within}
 
 pub entries-more : (m : ℕ) (l : List Entry) (i : ℕ) (d : Entry) → i < min m (length l)
     → entryLines i (drop i (take m l)) ≡ entryLine i (getD l i d) ++ entryLines (i + 1) (drop (i + 1) (take m l))

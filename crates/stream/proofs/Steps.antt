@@ -18,9 +18,10 @@ use Rattle.histories.specs.declared.state.Report.{Report}
 use Rattle.histories.specs.Calls.{refused}
 use Rattle.histories.specs.Replies.{Replied}
 use Rattle.stream.specs.declared.obey.Done.{Done}
-use Rattle.stream.specs.Lines.{Within, answerLine, replyLine, reportLine}
-use Rattle.stream.specs.Step.{Outcome, answered, repliedTo, reportedTo, obeyed, Did}
-use Rattle.stream.specs.Run.{outcome, goesOn, nextPlace, Stepped}
+use Rattle.transcripts.specs.Lines.{answerLine, replyLine, reportLine}
+use Rattle.stream.specs.Calls.{Within, Did, Stepped}
+use Rattle.transcripts.specs.Step.{Outcome, answered, repliedTo, reportedTo, obeyed}
+use Rattle.transcripts.specs.Run.{outcome, goesOn, nextPlace}
 use Rattle.stream.proofs.Lengths.{within, within-more, within-of}
 
 -- an outcome by another name

@@ -2,9 +2,8 @@
 use Prim.Native.Nat.{ℕ}
 use mathlib.Core.Path.{_≡_, sym, _∙_}
 use mathlib.Core.List.{List}
-use Rattle.stream.specs.declared.run.Run.{Run}
-use Rattle.stream.specs.Lines.{Within}
-use Rattle.stream.specs.Run.{Advanced}
+use Rattle.transcripts.specs.declared.run.Run.{Run}
+use Rattle.stream.specs.Calls.{Within, Advanced}
 
 -- of a text that was laid, the buffer and the place after it
 pub within-one : {k at r q : ℕ} {t l m o : List ℕ} → Within k t at l m r → Within k t at l o q → (m ≡ o) × (r ≡ q)

@@ -1,4 +1,2 @@
--- The definitions: the lines that records print, what a whole record does, and the run of a whole stream.
-pub mod Lines
-pub mod Step
-pub mod Run
+-- The definitions: what the calls of the stream leave in the station, the run and the buffer that they are lent.
+pub mod Calls

@@ -1,5 +1,6 @@
 // The line that every record prints: number, kind, answer.
-ghost use Rattle.stream.specs.Lines.{Within, answerLine, replyLine};
+ghost use Rattle.transcripts.specs.Lines.{answerLine, replyLine};
+ghost use Rattle.stream.specs.Calls.{Within};
 use crate::words::NEWLINE;
 use crate::words::SPACE;
 use crate::words::put_number;

@@ -2,7 +2,8 @@
 ghost use Rattle.histories.specs.Calls.{setUp, newTarget, removed, moved, requested, reported};
 ghost use Rattle.histories.specs.Planning.{nextPlan};
 ghost use Rattle.records.specs.Fields.{setupAt, edgesAt, addressAt, requestAt, tagAt};
-ghost use Rattle.stream.specs.Step.{answered, planned, reportedTo, obeyed, Did};
+ghost use Rattle.transcripts.specs.Step.{answered, planned, reportedTo, obeyed};
+ghost use Rattle.stream.specs.Calls.{Did};
 use crate::answers::put_answer;
 use crate::entries::put_entries;
 use crate::replies::obey_long_reply;

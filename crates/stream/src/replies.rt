@@ -1,7 +1,8 @@
 // What a reply of each length does: the corrected message goes to a buffer of its own and is not printed.
 ghost use mathlib.Core.List.{[]};
 ghost use Rattle.histories.specs.Replies.{told};
-ghost use Rattle.stream.specs.Step.{repliedTo, replyTo, zeros, Did};
+ghost use Rattle.transcripts.specs.Step.{repliedTo, replyTo, zeros};
+ghost use Rattle.stream.specs.Calls.{Did};
 use crate::answers::put_answer;
 use crate::answers::put_reply_answer;
 use crate::obey::Done;

@@ -1,6 +1,7 @@
 // The line of a report: what was heard of a target, and how many plans ago.
 ghost use mathlib.Core.List.{[], _∷_, _++_};
-ghost use Rattle.stream.specs.Lines.{Within, followed, valueWord, ageWord, reportLine};
+ghost use Rattle.transcripts.specs.Lines.{followed, valueWord, ageWord, reportLine};
+ghost use Rattle.stream.specs.Calls.{Within};
 use crate::words::NEWLINE;
 use crate::words::SPACE;
 use crate::words::put_number;

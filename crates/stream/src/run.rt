@@ -1,18 +1,10 @@
 // The run of a stream, one record after the other.
 ghost use mathlib.Core.Path.{_≡_};
 ghost use lib.ListN.{length, replicate};
-ghost use Rattle.stream.specs.Run.{begun, Advanced};
+ghost use Rattle.transcripts.specs.Run.{begun};
+ghost use Rattle.stream.specs.Calls.{Advanced};
 use crate::step::put_step;
-use histories::Station;
-
-// The station, the place and the number of the next record, whether the run goes on, and how many bytes the last record's lines have.
-pub struct Run {
-    pub station: Station,
-    pub at: usize,
-    pub n: u32,
-    pub more: bool,
-    pub size: usize,
-}
+use transcripts::Run;
 
 // Before the first record.
 pub fn begin() -> Run

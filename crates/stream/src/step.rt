@@ -1,5 +1,5 @@
 // One step: what stands at a place of the stream, done and printed.
-ghost use Rattle.stream.specs.Run.{Stepped};
+ghost use Rattle.stream.specs.Calls.{Stepped};
 use crate::answers::put_answer;
 use crate::obey::obey;
 use histories::Station;

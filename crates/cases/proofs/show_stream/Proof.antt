@@ -1,5 +1,6 @@
 -- `show_stream` reads, has each record taken and writes its lines; the bytes left fall with every step, so it ends.
-use Rattle.stream.proofs.Runs.{left, falls-after, shown-count}
+use Rattle.transcripts.proofs.Runs.{left}
+use Rattle.stream.proofs.Shown.{falls-after, shown-count}
 use borrow.Author.Needs.{needs}
 use Rattle.cases.proofs.show_stream.Statement.{statement}
 use Rattle.cases.proofs.show_stream.Tie as tie

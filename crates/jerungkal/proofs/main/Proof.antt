@@ -1,5 +1,6 @@
 -- `main` reads, has each record taken and writes its lines; the bytes left fall with every step, so it ends.
-use Rattle.stream.proofs.Runs.{left, falls-after, shown-count}
+use Rattle.transcripts.proofs.Runs.{left}
+use Rattle.stream.proofs.Shown.{falls-after, shown-count}
 use borrow.Author.Needs.{needs}
 use Rattle.jerungkal.proofs.main.Statement.{statement}
 use Rattle.jerungkal.proofs.main.Tie as tie

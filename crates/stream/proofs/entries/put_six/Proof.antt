@@ -1,5 +1,5 @@
 -- `put_six` lays six numbers.
-use Rattle.stream.specs.Lines.{line}
+use Rattle.transcripts.specs.Lines.{line}
 use Rattle.stream.proofs.Lengths.{within-then}
 use borrow.Author.Needs.{needs}
 use Rattle.stream.proofs.entries.put_six.Statement.{statement}

@@ -1,5 +1,5 @@
 -- `obey` does what the kind asks.
-use Rattle.stream.specs.Step.{obeyed}
+use Rattle.transcripts.specs.Step.{obeyed}
 use Rattle.stream.proofs.Steps.{did-of, of-kind, of-none}
 use borrow.Author.Needs.{needs}
 use Rattle.stream.proofs.obey.obey.Statement.{statement}

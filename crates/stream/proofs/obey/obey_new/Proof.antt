@@ -2,7 +2,7 @@
 use mathlib.Core.Path.{ap, _∙_}
 use Rattle.records.specs.declared.fields.Edges.{Edges}
 use Rattle.histories.specs.Calls.{newTarget}
-use Rattle.stream.specs.Step.{answered}
+use Rattle.transcripts.specs.Step.{answered}
 use Rattle.stream.proofs.Steps.{did-of}
 use borrow.Author.Needs.{needs}
 use Rattle.stream.proofs.obey.obey_new.Statement.{statement}

@@ -2,7 +2,7 @@
 use native.Mathlib.Omega.{arith}
 use mathlib.Core.Path.{refl, ap, _∙_}
 use Rattle.histories.specs.Planning.{nextPlan}
-use Rattle.stream.specs.Step.{planned}
+use Rattle.transcripts.specs.Step.{planned}
 use Rattle.stream.proofs.Lengths.{within-then}
 use Rattle.stream.proofs.Steps.{did-of, did-lines}
 use borrow.Author.Needs.{needs}

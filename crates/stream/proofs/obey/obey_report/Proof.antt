@@ -2,7 +2,7 @@
 use native.Mathlib.Omega.{arith}
 use mathlib.Core.Path.{refl, ap, _∙_}
 use Rattle.histories.specs.Calls.{reported}
-use Rattle.stream.specs.Step.{reportedTo}
+use Rattle.transcripts.specs.Step.{reportedTo}
 use Rattle.stream.proofs.Lengths.{within-then}
 use Rattle.stream.proofs.Steps.{did-of, did-lines, report-refused, report-taken}
 use borrow.Author.Needs.{needs}

@@ -3,7 +3,7 @@ use native.Mathlib.Omega.{arith}
 use mathlib.Core.Path.{ap, _∙_}
 use Rattle.records.specs.declared.fields.Reply.{Reply}
 use Rattle.histories.specs.Replies.{replied}
-use Rattle.stream.specs.Step.{partOf, repliedTo}
+use Rattle.transcripts.specs.Step.{partOf, repliedTo}
 use Rattle.stream.proofs.Steps.{did-of, in-order}
 use borrow.Author.Needs.{needs}
 use Rattle.stream.proofs.replies.obey_reply.Statement.{statement}

@@ -2,7 +2,7 @@
 use native.Mathlib.Omega.{arith}
 use mathlib.Core.Path.{_≡_}
 use lib.ListN.{length}
-use Rattle.stream.specs.Run.{outcomeNow, advanced}
+use Rattle.transcripts.specs.Run.{outcomeNow, advanced}
 use borrow.Author.Needs.{needs}
 use Rattle.stream.proofs.run.advance.Statement.{statement}
 use Rattle.stream.proofs.run.advance.Tie as tie

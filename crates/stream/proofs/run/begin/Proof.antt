@@ -1,5 +1,5 @@
 -- `begin` is the run before the first record.
-use Rattle.stream.specs.Run.{begun}
+use Rattle.transcripts.specs.Run.{begun}
 use borrow.Author.Needs.{needs}
 use Rattle.stream.proofs.run.begin.Statement.{statement}
 use Rattle.stream.proofs.run.begin.Tie as tie

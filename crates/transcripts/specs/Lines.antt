@@ -1,18 +1,13 @@
 -- The lines that records print: decimal numbers parted by single spaces, each line ended by a newline.
-use Prim.Native.Nat.{ℕ, suc, _+_, _≤_}
+use Prim.Native.Nat.{ℕ, suc}
 use mathlib.Core.List.{List, [], _∷_, _++_}
 use lib.IntN.{ℤ}
-use Rattle.text.specs.Put.{Put, decimal}
+use Rattle.text.specs.Put.{decimal}
 use Rattle.text.specs.Signed.{signedDecimal}
 use Rattle.planner.specs.declared.entry.Entry.{Entry}
 use Rattle.planner.specs.Exchange.{listens}
 use Rattle.histories.specs.declared.state.Value.{Value}
 use Rattle.histories.specs.declared.state.Value.the-variants.{Never, Heard}
-
--- a call laid a text into a buffer at a place, and answered the place after it, which is at most k further
-pub record Within (k : ℕ) (t : List ℕ) (at : ℕ) (before after : List ℕ) (r : ℕ) : Type 0 where
-  pub put : Put t at before after r
-  pub short : r ≤ at + k
 
 -- a word and the byte behind it
 abbrev pub followed : List ℕ → ℕ → List ℕ

@@ -8,14 +8,13 @@ use mathlib.Core.List.{List, [], _++_}
 use lib.ListN.{length, getD, take, length-take}
 use borrow.Author.Tests.{le-leb}
 use Rattle.lists.specs.Lists.{pick}
-use Rattle.text.proofs.Laid.{length-laid, take-laid}
 use Rattle.records.specs.declared.reading.Found.{Found}
 use Rattle.records.specs.declared.reading.Found.the-variants.{End, Unknown, Cut, Whole}
 use Rattle.records.specs.Records.{bodyLength, recordAt}
 use Rattle.records.proofs.Steps.{whole-fits}
 use Rattle.histories.specs.declared.state.Station.{Station}
-use Rattle.stream.specs.declared.run.Run.{Run}
-use Rattle.stream.specs.Run.{outcome, goesOn, nextPlace, textFrom, transcript, begun, outcomeNow, advanced, written, runAfter, Advanced}
+use Rattle.transcripts.specs.declared.run.Run.{Run}
+use Rattle.transcripts.specs.Run.{outcome, goesOn, nextPlace, textFrom, transcript, begun, outcomeNow, advanced, written, runAfter}
 
 -- ---- a step takes each byte at most once
 
@@ -64,10 +63,6 @@ by-test s at f false h e = omega (arith, stays-by f at e)
 pub falls : (s : List ℕ) (r : Run) → r .more ≡ true → left s (advanced s r) < left s r
 unfolding advanced
 falls s r m = rw m (by-test s (r .at) (recordAt s (r .at)) (goesOn (recordAt s (r .at))) refl refl)
-
--- the same of a step of the code
-pub falls-after : {s l m : List ℕ} {r q : Run} → Advanced s r l m q → r .more ≡ true → left s q < left s r
-falls-after {s} {l} {m} {r} a e = rw (a .answer) (falls s r e)
 
 none-left : (s : List ℕ) (r : Run) (b : Bool) → r .more ≡ b → left s r ≤ 0 → r .more ≡ false
 none-left s r true e h = let z : (length s - r .at) + 1 ≤ 0 = rw e at h in absurd (omega arith)
@@ -142,18 +137,3 @@ steps-write (suc k) s r small ok =
 pub the-transcript : (input : List ℕ) → written 65537 (take 65536 input) begun ≡ transcript input
 unfolding transcript begun
 the-transcript input = steps-write 65537 (take 65536 input) begun (simp length-take (omega arith)) (record { counted = omega arith; inside = omega arith })
-
--- ---- what the program writes after a step: the first bytes of the buffer are the record's lines
-pub shown : {s l m : List ℕ} {r q : Run} → Advanced s r l m q → take (q .size) m ≡ outcomeNow s r .lines
-unfolding advanced
-shown {s} {l} {m} {r} {q} a =
-    let t = outcomeNow s r .lines in
-    let z : q .size ≡ length t = ap (λ (x : Run). x .size) (a .answer) in
-    let e : take (length t) m ≡ t = ap (take (length t)) (a .text) ∙ take-laid t l (omega (arith, a .room, z)) in
-    rw z e
-
--- and they are all in the buffer, as lending its front asks
-pub shown-count : {s l m : List ℕ} {r q : Run} → Advanced s r l m q → (q .size ≤ length m) × (q .size ≡ length (take (q .size) m))
-shown-count {s} {l} {m} {r} {q} a =
-    let k : length m ≡ length l = ap length (a .text) ∙ length-laid (outcomeNow s r .lines) 0 l in
-    (omega (arith, a .room, k), simp length-take (omega (arith, a .room, k)))

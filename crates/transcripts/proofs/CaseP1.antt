@@ -15,9 +15,9 @@ use Rattle.records.specs.Fields.{eightAt}
 use Rattle.histories.specs.State.{emptied}
 use Rattle.histories.specs.Calls.{setUp, targetRanged, requestRanged, unitFull, newTarget, requested, reported}
 use Rattle.histories.specs.Planning.{asked, boardFor, nextPlan}
-use Rattle.stream.specs.Lines.{line, answerLine, entryLine, entryLines, valueWord, ageWord, reportLine}
-use Rattle.stream.specs.Step.{obeyed}
-use Rattle.stream.specs.Run.{outcome, goesOn, nextPlace, textFrom, transcript}
+use Rattle.transcripts.specs.Lines.{line, answerLine, entryLine, entryLines, valueWord, ageWord, reportLine}
+use Rattle.transcripts.specs.Step.{obeyed}
+use Rattle.transcripts.specs.Run.{outcome, goesOn, nextPlace, textFrom, transcript}
 
 -- setup: L 20000, R 3000, limit 5, guarantees 2,1, ceilings 3,2, the rest 0
 abbrev setup : List ℕ

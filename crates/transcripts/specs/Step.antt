@@ -1,7 +1,6 @@
 -- What a whole record does: the lines that it prints, and the station after it.
 use Prim.Native.Nat.{ℕ, _-_}
 use mathlib.Core.List.{List, [], _++_}
-use mathlib.Core.Path.{_≡_}
 use lib.Dec.{eqb}
 use lib.ListN.{take, drop, replicate}
 use Rattle.lists.specs.Lists.{pick}
@@ -14,8 +13,7 @@ use Rattle.histories.specs.State.{entriesOf}
 use Rattle.histories.specs.Calls.{refused, setUp, newTarget, removed, moved, requested, reported}
 use Rattle.histories.specs.Planning.{nextPlan}
 use Rattle.histories.specs.Replies.{Replied, replied}
-use Rattle.stream.specs.declared.obey.Done.{Done}
-use Rattle.stream.specs.Lines.{Within, answerLine, replyLine, entryLines, reportLine}
+use Rattle.transcripts.specs.Lines.{answerLine, replyLine, entryLines, reportLine}
 
 -- the lines that a record prints, and the station after it
 pub record Outcome : Type 0 where
@@ -71,8 +69,3 @@ obeyed s n kind b st =
     (pick (eqb kind 8) (reportedTo n st (reported st (addressAt s b)))
     (pick (eqb kind 9) (answered n 9 (moved st (edgesAt s b .address) (edgesAt s b .near) (edgesAt s b .far)))
     (answered n kind (refused 16 st))))))))))
-
--- a call did what the definition says: the station afterwards, and the lines at the front of the buffer, of which there are at most 9,252 bytes
-pub record Did (o : Outcome) (before after : List ℕ) (r : Done) : Type 0 where
-  pub station : r .station ≡ o .station
-  pub lines : Within 9252 (o .lines) 0 before after (r .size)

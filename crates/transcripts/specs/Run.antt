@@ -1,21 +1,17 @@
 -- One record after the other: the text of a whole stream, and the run as the code carries it.
-use Prim.Native.Nat.{ℕ, zero, suc, _+_, _%_, _^_, _≤_}
+use Prim.Native.Nat.{ℕ, zero, suc, _+_, _%_, _^_}
 use mathlib.Core.Bool.{Bool, true, false}
 use mathlib.Core.List.{List, [], _++_}
-use mathlib.Core.Path.{_≡_}
 use lib.ListN.{length, take}
 use Rattle.lists.specs.Lists.{pick}
-use Rattle.text.specs.Put.{laid}
 use Rattle.records.specs.declared.reading.Found.{Found}
 use Rattle.records.specs.declared.reading.Found.the-variants.{End, Unknown, Cut, Whole}
 use Rattle.records.specs.Records.{recordAt}
 use Rattle.histories.specs.declared.state.Station.{Station}
 use Rattle.histories.specs.State.{blank}
 use Rattle.histories.specs.Calls.{refused}
-use Rattle.stream.specs.declared.step.Step.{Step}
-use Rattle.stream.specs.declared.run.Run.{Run}
-use Rattle.stream.specs.Lines.{Within}
-use Rattle.stream.specs.Step.{Outcome, answered, obeyed}
+use Rattle.transcripts.specs.declared.run.Run.{Run}
+use Rattle.transcripts.specs.Step.{Outcome, answered, obeyed}
 
 -- ---- what stands at a place of the stream
 -- as record n: nothing; "unknown record kind"; "record cut by the end of the stream"; what a whole record does
@@ -38,13 +34,6 @@ nextPlace End at = at
 nextPlace (Unknown b) at = at
 nextPlace (Cut kind) at = at
 nextPlace (Whole kind body next) at = next
-
--- a step did what the definition says of what stands at the place
-pub record Stepped (s : List ℕ) (at n : ℕ) (st : Station) (before after : List ℕ) (r : Step) : Type 0 where
-  pub station : r .station ≡ outcome s n st (recordAt s at) .station
-  pub more : r .more ≡ goesOn (recordAt s at)
-  pub next : r .next ≡ nextPlace (recordAt s at) at
-  pub lines : Within 9252 (outcome s n st (recordAt s at) .lines) 0 before after (r .size)
 
 -- ---- the text of a stream
 -- the text of the records from a place on, the first of them being record n: at most k records
@@ -92,9 +81,3 @@ runAfter zero s r = r
 runAfter (suc k) s r =
     let later = runAfter k s (advanced s r) in
     pick (r .more) later r
-
--- a step answered as defined, and the very bytes of the record's lines stand at the front of the buffer, which has room for them
-pub record Advanced (s : List ℕ) (r : Run) (before after : List ℕ) (q : Run) : Type 0 where
-  pub answer : q ≡ advanced s r
-  pub text : after ≡ laid (outcomeNow s r .lines) 0 before
-  pub room : q .size ≤ length before

@@ -9,8 +9,8 @@ use Rattle.planner.specs.declared.request.Ask.{Ask}
 use Rattle.planner.specs.Exchange.{sentFor, replyFor, entryAt}
 use Rattle.records.specs.Records.{bodyLength, recordAt}
 use Rattle.histories.specs.declared.state.Value.the-variants.{Never, Heard}
-use Rattle.stream.specs.Lines.{line, answerLine, replyLine, entryLine, valueWord, ageWord, reportLine}
-use Rattle.stream.specs.Run.{outcome, goesOn, textFrom, transcript}
+use Rattle.transcripts.specs.Lines.{line, answerLine, replyLine, entryLine, valueWord, ageWord, reportLine}
+use Rattle.transcripts.specs.Run.{outcome, goesOn, textFrom, transcript}
 
 -- case P1: unit 0 asks address 1 with UF 20 and RR 16; near 2000, far 2010
 abbrev asked : Ask

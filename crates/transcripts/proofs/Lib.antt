@@ -1,0 +1,4 @@
+-- The theorems on runs, and the examples of document 01 computed from the definitions.
+pub mod Runs
+mod Examples
+mod CaseP1
