@@ -60,8 +60,21 @@ struct PlanRows {
     numbers: [u64; 128],
 }
 
+#[cfg(not(target_arch = "aarch64"))]
 extern "C" {
     fn jerungkal_plan(job: PlanJob) -> PlanRows;
+}
+
+/// The module is made for x86-64's way to pass a struct; compiled for Arm it takes the places of the answer and of the job.
+#[cfg(target_arch = "aarch64")]
+unsafe fn jerungkal_plan(mut job: PlanJob) -> PlanRows {
+    extern "C" {
+        #[link_name = "jerungkal_plan"]
+        fn plan_at(rows: *mut PlanRows, job: *mut PlanJob) -> *mut PlanRows;
+    }
+    let mut rows = std::mem::MaybeUninit::uninit();
+    plan_at(rows.as_mut_ptr(), &mut job);
+    rows.assume_init()
 }
 
 #[derive(Clone, Copy)]
@@ -78,9 +91,27 @@ fn exchange(a: &Ask) -> (u32, u32, u32) {
     (sent, 19 + 512 - 1 + a.near as u32, 19 + 512 + 1 + a.far as u32 + reply)
 }
 
-/// One pass over the waiting list, with a way to look for a place.
-fn pass(limits: &[u8; 8], placed: &mut Vec<Entry>, waiting: &mut Vec<Ask>, place: &mut impl FnMut(&Ask, &[Entry]) -> Option<u32>) {
+/// When a placed exchange starts, ends its transmission, opens its window and ends, and with which aircraft it is.
+#[derive(Clone, Copy)]
+struct Taken {
+    at: u32,
+    sent: u32,
+    open: u32,
+    end: u32,
+    address: u32,
+}
+
+fn taken(e: &Entry) -> Taken {
+    let (sent, from, to) = exchange(&e.ask);
+    let at = e.start as u32;
+    Taken { at, sent: at + sent, open: at + from, end: at + to, address: e.ask.request.address }
+}
+
+/// One pass over the waiting list, with a way to look for a place. The intervals of what is placed are reckoned once.
+fn pass(limits: &[u8; 8], placed: &mut Vec<Entry>, waiting: &mut Vec<Ask>, place: &mut impl FnMut(&Ask, &[Entry], &[Taken]) -> Option<u32>) {
     let mut counts = [0u8; 8];
+    let mut times: Vec<Taken> = Vec::with_capacity(128);
+    times.extend(placed.iter().map(taken));
     for e in placed.iter() {
         counts[e.ask.request.unit as usize] += 1;
     }
@@ -89,8 +120,10 @@ fn pass(limits: &[u8; 8], placed: &mut Vec<Entry>, waiting: &mut Vec<Ask>, place
         let a = waiting[i];
         let unit = a.request.unit as usize;
         if counts[unit] < limits[unit] {
-            if let Some(t) = place(&a, placed) {
-                placed.push(Entry { ask: a, start: t as u16 });
+            if let Some(t) = place(&a, placed, &times) {
+                let e = Entry { ask: a, start: t as u16 };
+                placed.push(e);
+                times.push(taken(&e));
                 counts[unit] += 1;
                 continue;
             }
@@ -101,7 +134,7 @@ fn pass(limits: &[u8; 8], placed: &mut Vec<Entry>, waiting: &mut Vec<Ask>, place
     waiting.truncate(kept);
 }
 
-fn plan(job: &PlanJob, placed: &mut Vec<Entry>, waiting: &mut Vec<Ask>, mut place: impl FnMut(&Ask, &[Entry]) -> Option<u32>) {
+fn plan(job: &PlanJob, placed: &mut Vec<Entry>, waiting: &mut Vec<Ask>, mut place: impl FnMut(&Ask, &[Entry], &[Taken]) -> Option<u32>) {
     placed.clear();
     waiting.clear();
     waiting.extend_from_slice(&job.asks.list[..job.asks.n]);
@@ -123,19 +156,16 @@ fn past(t: u32, a: u32, b: u32, lo: u32, hi: u32) -> u32 {
 }
 
 #[inline]
-fn nudge(t: u32, a: &Ask, e: &Entry) -> u32 {
-    let (sent, from, to) = exchange(a);
-    let (s, f, w) = exchange(&e.ask);
-    let at = e.start as u32;
-    if at + w <= t || t + to <= at {
+fn nudge(t: u32, (sent, from, to): (u32, u32, u32), address: u32, e: &Taken) -> u32 {
+    if e.end <= t || t + to <= e.at {
         return t;
     }
-    let t = past(t, 0, sent, at, at + s);
-    let t = past(t, 0, sent, at + f, at + w);
-    let t = past(t, from, to, at, at + s);
-    let t = past(t, from, to, at + f, at + w);
-    if a.request.address == e.ask.request.address {
-        past(t, 0, to, at, at + w)
+    let t = past(t, 0, sent, e.at, e.sent);
+    let t = past(t, 0, sent, e.open, e.end);
+    let t = past(t, from, to, e.at, e.sent);
+    let t = past(t, from, to, e.open, e.end);
+    if address == e.address {
+        past(t, 0, to, e.at, e.end)
     } else {
         t
     }
@@ -143,8 +173,9 @@ fn nudge(t: u32, a: &Ask, e: &Entry) -> u32 {
 
 /// The same method: rounds over the entries, each step going past what is in the way. `step` is told of each.
 #[inline]
-fn jump(period: u32, a: &Ask, entries: &[Entry], mut step: impl FnMut(bool)) -> Option<u32> {
-    let (_, _, to) = exchange(a);
+fn jump(period: u32, a: &Ask, entries: &[Taken], mut step: impl FnMut(bool)) -> Option<u32> {
+    let own = exchange(a);
+    let to = own.2;
     if period < to {
         return None;
     }
@@ -152,7 +183,7 @@ fn jump(period: u32, a: &Ask, entries: &[Entry], mut step: impl FnMut(bool)) -> 
     let (mut from, mut t, mut i) = (0, 0, 0);
     while t <= last {
         if i < entries.len() {
-            let r = nudge(t, a, &entries[i]);
+            let r = nudge(t, own, a.request.address, &entries[i]);
             step(r != t);
             t = r;
             i += 1;
@@ -239,7 +270,7 @@ fn random_case(rng: &mut Rng) -> PlanJob {
 fn cost(job: &PlanJob, jump_counts: u64) -> u64 {
     let (mut placed, mut waiting) = (Vec::with_capacity(128), Vec::with_capacity(128));
     let mut steps = 0u64;
-    plan(job, &mut placed, &mut waiting, |a, es| jump(job.setup.period as u32, a, es, |moved| steps += if moved { jump_counts } else { 1 }));
+    plan(job, &mut placed, &mut waiting, |a, _, es| jump(job.setup.period as u32, a, es, |moved| steps += if moved { jump_counts } else { 1 }));
     steps
 }
 
@@ -284,7 +315,7 @@ fn timed(job: &PlanJob, runs: usize) -> (f64, f64) {
     let mut rows = unsafe { jerungkal_plan(*job) };
     for _ in 0..runs {
         proved = proved.min(seconds(|| rows = unsafe { jerungkal_plan(*job) }));
-        rust = rust.min(seconds(|| plan(job, &mut placed, &mut waiting, |a, es| jump(job.setup.period as u32, a, es, |_| ()))));
+        rust = rust.min(seconds(|| plan(job, &mut placed, &mut waiting, |a, _, es| jump(job.setup.period as u32, a, es, |_| ()))));
     }
     assert_eq!((rows.placed, rows.waiting), (placed.len(), waiting.len()));
     for (i, e) in placed.iter().enumerate() {
@@ -296,7 +327,7 @@ fn timed(job: &PlanJob, runs: usize) -> (f64, f64) {
 /// The literal version's time, in milliseconds, after its plan was compared.
 fn scanned(job: &PlanJob) -> f64 {
     let (mut placed, mut waiting) = (Vec::with_capacity(128), Vec::with_capacity(128));
-    let ms = 1e3 * seconds(|| plan(job, &mut placed, &mut waiting, |a, es| scan(job.setup.period as u32, a, es)));
+    let ms = 1e3 * seconds(|| plan(job, &mut placed, &mut waiting, |a, es, _| scan(job.setup.period as u32, a, es)));
     let rows = unsafe { jerungkal_plan(*job) };
     assert_eq!(rows.placed, placed.len());
     for (i, e) in placed.iter().enumerate() {

@@ -2,6 +2,7 @@
 pub mod Smallest
 pub mod Clear
 pub mod Steps
+pub mod Rows
 pub mod Tallies
 pub mod Passes
 pub mod Sweeps

@@ -1,9 +1,9 @@
 -- How the steps of the search for a place fit together.
-use Prim.Native.Nat.{ℕ, _+_, _-_, _≤_, _<_}
+use Prim.Native.Nat.{ℕ, _+_, _≤_, _<_}
 use native.Mathlib.Omega.{arith}
 use native.Mathlib.Nat.{le-antisymm}
 use mathlib.Core.Path.{_≡_, refl, sym, subst, ap, fun-ext, _∙_}
-use mathlib.Core.Logic.{_⊎_, ⊎-elim}
+use mathlib.Core.Logic.{⊎-elim}
 use mathlib.Core.Bool.{Bool, true, false, not, _&&_, _||_}
 use mathlib.Core.List.{List, [], _∷_, _++_}
 use lib.ListN.{length, getD, take}
@@ -58,7 +58,7 @@ stay-put : (f : ℕ → Bool) (t : ℕ) → t ≤ 200000 → f t ≡ true → St
 stay-put f t small passes = record { up = omega arith; cap = small; none = λ j from to. absurd (omega arith); same = λ e. passes }
 
 -- a request tried from t on, against an entry e
-module _ (a : Ask) (e : Entry) (t : ℕ) (p q : Exchange) (at : ℕ) (x : p ≡ exchangeOf a) (y : q ≡ exchangeOf (e .ask)) (z : at ≡ e .start) where
+module _ (a : Ask) (e : Entry) (t : ℕ) (p : Exchange) (at sent from end : ℕ) (x : p ≡ exchangeOf a) (at-is : at ≡ transmits e .lo) (sent-is : sent ≡ transmits e .hi) (from-is : from ≡ listens e .lo) (end-is : end ≡ listens e .hi) where
   p-sent : p .sent ≡ exchangeOf a .sent
   p-sent = ap (λ (r : Exchange). r .sent) x
 
@@ -68,15 +68,6 @@ module _ (a : Ask) (e : Entry) (t : ℕ) (p q : Exchange) (at : ℕ) (x : p ≡ 
   p-to : p .to ≡ exchangeOf a .to
   p-to = ap (λ (r : Exchange). r .to) x
 
-  q-sent : q .sent ≡ exchangeOf (e .ask) .sent
-  q-sent = ap (λ (r : Exchange). r .sent) y
-
-  q-from : q .from ≡ exchangeOf (e .ask) .from
-  q-from = ap (λ (r : Exchange). r .from) y
-
-  q-to : q .to ≡ exchangeOf (e .ask) .to
-  q-to = ap (λ (r : Exchange). r .to) y
-
   abbrev four : ℕ → Bool
   four j =
       apart (transmits (entryAt a j)) (transmits e)
@@ -85,33 +76,33 @@ module _ (a : Ask) (e : Entry) (t : ℕ) (p q : Exchange) (at : ℕ) (x : p ≡ 
       && apart (listens (entryAt a j)) (listens e)
 
   -- the four intervals
-  ground : (t1 t2 t3 t4 : ℕ) → Past t 0 (p .sent) at (at + q .sent) t1 → Past t1 0 (p .sent) (at + q .from) (at + q .to) t2 → Past t2 (p .from) (p .to) at (at + q .sent) t3 → Past t3 (p .from) (p .to) (at + q .from) (at + q .to) t4 → Step four t t4
+  ground : (t1 t2 t3 t4 : ℕ) → Past t 0 (p .sent) at sent t1 → Past t1 0 (p .sent) from end t2 → Past t2 (p .from) (p .to) at sent t3 → Past t3 (p .from) (p .to) from end t4 → Step four t t4
   ground t1 t2 t3 t4 p1 p2 p3 p4 =
-      let s1 = past-step (λ (j : ℕ). transmits (entryAt a j)) (transmits e) 0 (p .sent) at (at + q .sent) t t1 (λ j. omega arith) (λ j. omega (arith, p-sent)) (omega arith) (omega (arith, q-sent)) p1 in
-      let s2 = past-step (λ (j : ℕ). transmits (entryAt a j)) (listens e) 0 (p .sent) (at + q .from) (at + q .to) t1 t2 (λ j. omega arith) (λ j. omega (arith, p-sent)) (omega (arith, q-from)) (omega (arith, q-to)) p2 in
-      let s3 = past-step (λ (j : ℕ). listens (entryAt a j)) (transmits e) (p .from) (p .to) at (at + q .sent) t2 t3 (λ j. omega (arith, p-from)) (λ j. omega (arith, p-to)) (omega arith) (omega (arith, q-sent)) p3 in
-      let s4 = past-step (λ (j : ℕ). listens (entryAt a j)) (listens e) (p .from) (p .to) (at + q .from) (at + q .to) t3 t4 (λ j. omega (arith, p-from)) (λ j. omega (arith, p-to)) (omega (arith, q-from)) (omega (arith, q-to)) p4 in
+      let s1 = past-step (λ (j : ℕ). transmits (entryAt a j)) (transmits e) 0 (p .sent) at sent t t1 (λ j. omega arith) (λ j. omega (arith, p-sent)) (sym at-is) (sym sent-is) p1 in
+      let s2 = past-step (λ (j : ℕ). transmits (entryAt a j)) (listens e) 0 (p .sent) from end t1 t2 (λ j. omega arith) (λ j. omega (arith, p-sent)) (sym from-is) (sym end-is) p2 in
+      let s3 = past-step (λ (j : ℕ). listens (entryAt a j)) (transmits e) (p .from) (p .to) at sent t2 t3 (λ j. omega (arith, p-from)) (λ j. omega (arith, p-to)) (sym at-is) (sym sent-is) p3 in
+      let s4 = past-step (λ (j : ℕ). listens (entryAt a j)) (listens e) (p .from) (p .to) from end t3 t4 (λ j. omega (arith, p-from)) (λ j. omega (arith, p-to)) (sym from-is) (sym end-is) p4 in
       then _ _ t t3 t4 (then _ _ t t2 t3 (then _ _ t t1 t2 s1 s2) s3) s4
 
   -- and for one aircraft the whole spans
-  pub one-aircraft : (t1 t2 t3 t4 t5 : ℕ) → Past t 0 (p .sent) at (at + q .sent) t1 → Past t1 0 (p .sent) (at + q .from) (at + q .to) t2 → Past t2 (p .from) (p .to) at (at + q .sent) t3 → Past t3 (p .from) (p .to) (at + q .from) (at + q .to) t4 → a .request .address ≡ e .ask .request .address → Past t4 0 (p .to) at (at + q .to) t5 → Step (λ (j : ℕ). clear (entryAt a j) e) t t5
+  pub one-aircraft : (t1 t2 t3 t4 t5 : ℕ) → Past t 0 (p .sent) at sent t1 → Past t1 0 (p .sent) from end t2 → Past t2 (p .from) (p .to) at sent t3 → Past t3 (p .from) (p .to) from end t4 → a .request .address ≡ e .ask .request .address → Past t4 0 (p .to) at end t5 → Step (λ (j : ℕ). clear (entryAt a j) e) t t5
   unfolding clear
   one-aircraft t1 t2 t3 t4 t5 p1 p2 p3 p4 same w =
-      let s5 = past-step (λ (j : ℕ). spans (entryAt a j)) (spans e) 0 (p .to) at (at + q .to) t4 t5 (λ j. omega arith) (λ j. omega (arith, p-to)) (omega arith) (omega (arith, q-to)) w in
+      let s5 = past-step (λ (j : ℕ). spans (entryAt a j)) (spans e) 0 (p .to) at end t4 t5 (λ j. omega arith) (λ j. omega (arith, p-to)) (sym at-is) (sym end-is) w in
       then _ _ t t4 t5 (ground t1 t2 t3 t4 p1 p2 p3 p4) (subst (λ (b : Bool). Step (λ (j : ℕ). not b || apart (spans (entryAt a j)) (spans e)) t4 t5) (sym (eq-eqb _ _ same)) s5)
 
-  pub two-aircraft : (t1 t2 t3 t4 : ℕ) → Past t 0 (p .sent) at (at + q .sent) t1 → Past t1 0 (p .sent) (at + q .from) (at + q .to) t2 → Past t2 (p .from) (p .to) at (at + q .sent) t3 → Past t3 (p .from) (p .to) (at + q .from) (at + q .to) t4 → (a .request .address ≡ e .ask .request .address → ⊥) → Step (λ (j : ℕ). clear (entryAt a j) e) t t4
+  pub two-aircraft : (t1 t2 t3 t4 : ℕ) → Past t 0 (p .sent) at sent t1 → Past t1 0 (p .sent) from end t2 → Past t2 (p .from) (p .to) at sent t3 → Past t3 (p .from) (p .to) from end t4 → (a .request .address ≡ e .ask .request .address → ⊥) → Step (λ (j : ℕ). clear (entryAt a j) e) t t4
   unfolding clear
   two-aircraft t1 t2 t3 t4 p1 p2 p3 p4 other =
       let s = ground t1 t2 t3 t4 p1 p2 p3 p4 in
       then _ _ t t4 t4 s (subst (λ (b : Bool). Step (λ (j : ℕ). not b || apart (spans (entryAt a j)) (spans e)) t4 t4) (sym (ne-eqb _ _ other)) (stay-put _ t4 (s .cap) refl))
 
   -- one is over before the other starts
-  pub entry-over : t ≤ 200000 → at + q .to ≤ t → Step (λ (j : ℕ). clear (entryAt a j) e) t t
-  entry-over small h = stay-put (λ (j : ℕ). clear (entryAt a j) e) t small (clear-late (entryAt a t) e (omega (arith, q-to)))
+  pub entry-over : t ≤ 200000 → end ≤ t → Step (λ (j : ℕ). clear (entryAt a j) e) t t
+  entry-over small h = stay-put (λ (j : ℕ). clear (entryAt a j) e) t small (clear-late (entryAt a t) e (omega (arith, end-is)))
 
   pub request-over : t ≤ 200000 → t + p .to ≤ at → Step (λ (j : ℕ). clear (entryAt a j) e) t t
-  request-over small h = stay-put (λ (j : ℕ). clear (entryAt a j) e) t small (clear-swap (entryAt a t) e ∙ clear-late e (entryAt a t) (omega (arith, p-to)))
+  request-over small h = stay-put (λ (j : ℕ). clear (entryAt a j) e) t small (clear-swap (entryAt a t) e ∙ clear-late e (entryAt a t) (omega (arith, p-to, at-is)))
 
 -- rounds over the first n entries: no start below from fits, and since from the first i entries were passed
 module _ (L : ℕ) (a : Ask) (n : ℕ) (es : List Entry) where

@@ -1,14 +1,16 @@
 -- What the parts of the search promise each other.
-use Prim.Native.Nat.{ℕ, _+_, _≤_, _<_}
+use Prim.Native.Nat.{ℕ, _+_, _*_, _≤_, _<_}
 use mathlib.Core.Path.{_≡_}
 use mathlib.Core.Logic.{_⊎_}
 use mathlib.Core.Bool.{Bool, true, false}
 use Rattle.planner.specs.declared.exchange.Exchange.{Exchange}
 use mathlib.Core.List.{List}
-use lib.ListN.{length}
+use lib.ListN.{length, getD, take, set}
 use Rattle.planner.specs.declared.request.Ask.{Ask}
 use Rattle.planner.specs.declared.entry.Entry.{Entry}
-use Rattle.planner.specs.Exchange.{sentLong, earliest, longest, exchangeOf, entryAt, clear}
+use Rattle.planner.specs.declared.search.Place.{Place}
+use Rattle.planner.specs.Exchange.{sentLong, earliest, longest, exchangeOf, entryAt, transmits, listens, clear}
+use Rattle.planner.specs.Fits.{place}
 use Rattle.planner.specs.Shares.{share}
 use Rattle.planner.specs.Plan.{taken}
 
@@ -32,9 +34,46 @@ pub record Step (f : ℕ → Bool) (t r : ℕ) : Type 0 where
   pub none : (j : ℕ) → t ≤ j → j < r → f j ≡ false
   pub same : r ≡ t → f t ≡ true
 
--- a step of the exchange of any request with this address, against the entry e
-abbrev pub Clearing : Exchange → ℕ → Entry → ℕ → ℕ → Type 0
-Clearing p address e t r = (a : Ask) → p ≡ exchangeOf a → address ≡ a .request .address → Step (λ (j : ℕ). clear (entryAt a j) e) t r
+-- a step from t to r of the exchange p of any request with this address, against any entry with these intervals and this address
+pub record Clearing (p : Exchange) (address at sent from end its t r : ℕ) : Type 0 where
+  pub up : t ≤ r
+  pub cap : r ≤ 200000
+  pub step : (a : Ask) (e : Entry) → p ≡ exchangeOf a → address ≡ a .request .address → at ≡ transmits e .lo → sent ≡ transmits e .hi → from ≡ listens e .lo → end ≡ listens e .hi → its ≡ e .ask .request .address → Step (λ (j : ℕ). clear (entryAt a j) e) t r
+
+-- the search reads five numbers of each entry placed: row i tells of e its start, the end of its interrogation, the start and the
+-- end of its window, and its address
+pub record Told (rows : List ℕ) (i : ℕ) (e : Entry) : Type 0 where
+  pub start : getD rows (i * 5) 0 ≡ transmits e .lo
+  pub sent : getD rows (i * 5 + 1) 0 ≡ transmits e .hi
+  pub from : getD rows (i * 5 + 2) 0 ≡ listens e .lo
+  pub end : getD rows (i * 5 + 3) 0 ≡ listens e .hi
+  pub address : getD rows (i * 5 + 4) 0 ≡ e .ask .request .address
+
+-- the intervals of row i end where the search's sums have room
+pub record Roomy (rows : List ℕ) (i : ℕ) : Type 0 where
+  pub sent : getD rows (i * 5 + 1) 0 ≤ 200000
+  pub end : getD rows (i * 5 + 3) 0 ≤ 200000
+
+-- the rows show the first n entries
+pub record Shown (rows : List ℕ) (n : ℕ) (es : List Entry) : Type 0 where
+  pub all : length rows ≡ 640
+  pub each : (i : ℕ) (d : Entry) → i < n → Told rows i (getD es i d)
+  pub room : (i : ℕ) → i < n → Roomy rows i
+
+-- the rows with row i written for an entry
+unfoldable pub noted : Entry → ℕ → List ℕ → List ℕ
+noted e i rows =
+    set (set (set (set (set rows (i * 5) (transmits e .lo)) (i * 5 + 1) (transmits e .hi)) (i * 5 + 2) (listens e .lo)) (i * 5 + 3) (listens e .hi)) (i * 5 + 4) (e .ask .request .address)
+
+-- a step as above, against any entry that row i tells of
+pub record ClearingRow (p : Exchange) (address : ℕ) (rows : List ℕ) (i t r : ℕ) : Type 0 where
+  pub up : t ≤ r
+  pub cap : r ≤ 200000
+  pub step : (a : Ask) (e : Entry) → p ≡ exchangeOf a → address ≡ a .request .address → Told rows i e → Step (λ (j : ℕ). clear (entryAt a j) e) t r
+
+-- the place of a request beside the first n of any entries that the rows show
+abbrev pub Placing : ℕ → Ask → ℕ → List ℕ → Place → Type 0
+Placing L a n rows r = (es : List Entry) → n ≤ length es → Shown rows n es → r ≡ place L (take n es) a
 
 -- a list of eight counts says how many entries each unit has
 pub record Tallied (counts : List ℕ) (es : List Entry) : Type 0 where

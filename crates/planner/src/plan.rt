@@ -2,10 +2,12 @@
 ghost use mathlib.Core.Path.{_≡_};
 ghost use Prim.Native.Nat.{_+_, _≤_, _<_, min};
 ghost use lib.ListN.{length, take, set};
+ghost use Rattle.planner.specs.Exchange.{entryAt, listens};
 ghost use Rattle.planner.specs.Shares.{share};
 ghost use Rattle.planner.specs.Plan.{alone, passOver, plan, boardOf, asksOf, planned};
-ghost use Rattle.planner.specs.Promises.{Tallied};
+ghost use Rattle.planner.specs.Promises.{Tallied, noted, Shown};
 use crate::entry::Entry;
+use crate::exchange::Exchange;
 use crate::exchange::wide;
 use crate::request::Ask;
 use crate::request::Asks;
@@ -69,6 +71,36 @@ fn tally(n: usize, entries: [Entry; 128]) -> [u8; 8]
     counts
 }
 
+// Writes row i, the five numbers that the search reads of a request placed at a start.
+fn note(rows: &mut [u32; 640], i: usize, a: Ask, start: u16)
+    requires { ⌜ (i < 128) × (length (now rows) ≡ 640) ⌝ }
+    ensures { λ _. ⌜ (now (rows .exit) ≡ noted (entryAt a start) i (now (rows .entry))) × (listens (entryAt a start) .hi ≤ 200000) ⌝ }
+{
+    let q = Exchange::of(a);
+    let at = wide(start);
+    let k = i * 5;
+    rows[k] = at;
+    rows[k + 1] = at + q.sent;
+    rows[k + 2] = at + q.from;
+    rows[k + 3] = at + q.to;
+    rows[k + 4] = a.request.address;
+}
+
+// The rows of the n entries.
+fn rows_of(n: usize, entries: [Entry; 128]) -> [u32; 640]
+    requires { ⌜ n ≤ 128 ⌝ }
+    ensures { λ r. ⌜ Shown r n entries ⌝ }
+{
+    let mut rows = [0u32; 640];
+    let mut i: usize = 0;
+    while i < n {
+        let e = entries[i];
+        note(&mut rows, i, e.ask, e.start);
+        i += 1;
+    }
+    rows
+}
+
 // One pass over what waits, oldest first, with a limit for each unit. What still waits is written over the slots of base.
 fn sweep(l: u32, limits: [u8; 8], base: [Ask; 128], b: Planned) -> Planned
     requires { ⌜ (l ≤ 65535) × (b .placed + b .waiting ≤ 128) ⌝ }
@@ -79,6 +111,7 @@ fn sweep(l: u32, limits: [u8; 8], base: [Ask; 128], b: Planned) -> Planned
     let mut placed = b.placed;
     let mut entries = b.entries;
     let mut counts = tally(placed, entries);
+    let mut rows = rows_of(placed, entries);
     let mut waiting: usize = 0;
     let mut left = base;
     let mut i: usize = 0;
@@ -90,10 +123,11 @@ fn sweep(l: u32, limits: [u8; 8], base: [Ask; 128], b: Planned) -> Planned
             waiting += 1;
             continue;
         }
-        let s = first_fit(l, a, placed, entries);
+        let s = first_fit(l, a, placed, &rows);
         match s {
             Place::At(t) => {
                 entries[placed] = Entry::at(a, t);
+                note(&mut rows, placed, a, t);
                 one_more(&mut counts, a.request.unit);
                 placed += 1;
             }
