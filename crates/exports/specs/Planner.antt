@@ -1,10 +1,10 @@
 -- A plan's answer as rows of numbers.
 use Prim.Native.Nat.{ℕ}
 use mathlib.Core.List.{List, map}
-use Rattle.planner.specs.declared.entry.Entry.{Entry}
-use Rattle.planner.specs.declared.plan.Planned.{Planned}
-use Rattle.planner.specs.Exchange.{entryAt}
-use Rattle.exports.specs.declared.plans.PlanRows.{PlanRows}
+use Rattle.plans.specs.declared.entry.Entry.{Entry}
+use Rattle.plans.specs.declared.plan.Planned.{Planned}
+use Rattle.plans.specs.Exchange.{entryAt}
+use Rattle.exports.specs.declared.planning.PlanRows.{PlanRows}
 
 -- an entry of zeros
 abbrev pub noEntry : Entry

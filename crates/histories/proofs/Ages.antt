@@ -9,11 +9,11 @@ use lib.ListN.{getD, set}
 use lib.Dec.{eqb, ltb}
 use Rattle.lists.specs.Lists.{pick, filter}
 use Rattle.fields.specs.Building.{anAddress}
-use Rattle.planner.specs.declared.request.Ask.{Ask}
-use Rattle.planner.specs.declared.entry.Entry.{Entry}
-use Rattle.planner.specs.declared.entry.Mark.the-variants.{Answered}
-use Rattle.planner.specs.declared.shares.Setup.{Setup}
-use Rattle.planner.specs.Demand3.{askOf}
+use Rattle.plans.specs.declared.request.Ask.{Ask}
+use Rattle.plans.specs.declared.entry.Entry.{Entry}
+use Rattle.plans.specs.declared.entry.Mark.the-variants.{Answered}
+use Rattle.plans.specs.declared.setup.Setup.{Setup}
+use Rattle.plans.specs.Demand3.{askOf}
 use Rattle.histories.specs.declared.state.Value.{Value}
 use Rattle.histories.specs.declared.state.Value.the-variants.{Never, Heard}
 use Rattle.histories.specs.declared.state.Target.{Target}

@@ -12,9 +12,9 @@ use Rattle.remainders.specs.Answers.{Outcome}
 use Rattle.remainders.specs.Correction.{sized}
 use Rattle.fields.specs.Formats.{lengthOf}
 use Rattle.fields.specs.Building.{anAddress}
-use Rattle.planner.specs.declared.request.Request.{Request}
-use Rattle.planner.specs.declared.shares.Setup.{Setup}
-use Rattle.planner.specs.Shares.{judged}
+use Rattle.plans.specs.declared.request.Request.{Request}
+use Rattle.plans.specs.declared.setup.Setup.{Setup}
+use Rattle.plans.specs.Shares.{judged}
 use Rattle.histories.specs.declared.state.Station.{Station}
 use Rattle.histories.specs.declared.state.Answer.{Answer}
 use Rattle.histories.specs.declared.state.Report.{Report}

@@ -5,9 +5,9 @@ use mathlib.Core.List.{List, [], _∷_, map}
 use Rattle.lists.specs.Lists.{All}
 use Rattle.lists.proofs.Each.{all-image}
 use Rattle.remainders.specs.Messages.{AreBytes}
-use Rattle.planner.specs.declared.request.Request.{Request}
-use Rattle.planner.specs.declared.request.Ask.{Ask}
-use Rattle.planner.proofs.Demand3.{demand3, left-each}
+use Rattle.plans.specs.declared.request.Request.{Request}
+use Rattle.plans.specs.declared.request.Ask.{Ask}
+use Rattle.plans.proofs.Demand3.{demand3, left-each}
 use Rattle.histories.specs.declared.state.Station.{Station}
 use Rattle.histories.specs.declared.state.Targets.{Targets}
 use Rattle.histories.specs.State.{requestsOf}

@@ -16,15 +16,15 @@ use Rattle.lists.proofs.Each.{all-set, all-kept, count-kept, none-fail, all-pas
 use Rattle.lists.proofs.Keys.{fewer}
 use Rattle.fields.specs.Formats.{surveillance}
 use Rattle.fields.specs.Building.{anAddress, selectiveRanged}
-use Rattle.planner.specs.declared.request.Request.{Request}
-use Rattle.planner.specs.declared.request.Ask.{Ask}
-use Rattle.planner.specs.declared.entry.Entry.{Entry}
-use Rattle.planner.specs.declared.entry.Mark.{Mark}
-use Rattle.planner.specs.declared.entry.Mark.the-variants.{Open, Answered, Withdrawn}
-use Rattle.planner.specs.declared.shares.Setup.{Setup}
-use Rattle.planner.specs.Demand3.{Proper}
-use Rattle.planner.specs.Shares.{judged, sharesFit}
-use Rattle.planner.proofs.Demand3.{demand3, left-each}
+use Rattle.plans.specs.declared.request.Request.{Request}
+use Rattle.plans.specs.declared.request.Ask.{Ask}
+use Rattle.plans.specs.declared.entry.Entry.{Entry}
+use Rattle.plans.specs.declared.entry.Mark.{Mark}
+use Rattle.plans.specs.declared.entry.Mark.the-variants.{Open, Answered, Withdrawn}
+use Rattle.plans.specs.declared.setup.Setup.{Setup}
+use Rattle.plans.specs.Demand3.{Proper}
+use Rattle.plans.specs.Shares.{judged, sharesFit}
+use Rattle.plans.proofs.Demand3.{demand3, left-each}
 use Rattle.histories.specs.declared.state.Target.{Target}
 use Rattle.histories.specs.declared.state.Targets.{Targets}
 use Rattle.histories.specs.declared.state.Waiting.{Waiting}

@@ -17,9 +17,9 @@ use Rattle.fields.specs.Formats.{surveillance, lengthOf}
 use Rattle.fields.specs.Building.{anAddress, selectiveRanged}
 use Rattle.fields.specs.Reading.{formatOf}
 use Rattle.fields.proofs.Ranges.{selective-in}
-use Rattle.planner.specs.declared.request.Request.{Request}
-use Rattle.planner.specs.declared.shares.Setup.{Setup}
-use Rattle.planner.specs.Shares as shares
+use Rattle.plans.specs.declared.request.Request.{Request}
+use Rattle.plans.specs.declared.setup.Setup.{Setup}
+use Rattle.plans.specs.Shares as shares
 use Rattle.histories.specs.declared.state.Station.{Station}
 use Rattle.histories.specs.declared.state.Answer.{Answer}
 use Rattle.histories.specs.declared.state.Report.{Report}

@@ -8,8 +8,8 @@ use lib.Dec.{leb, ltb}
 use borrow.Author.Tests.{ltb-true, ltb-false}
 use Rattle.lists.specs.Lists.{pick}
 use Rattle.lists.proofs.Tests.{and-left, and-right}
-use Rattle.planner.specs.declared.entry.Entry.{Entry}
-use Rattle.planner.specs.Exchange.{earliest, latest, replyFor, listens}
+use Rattle.plans.specs.declared.entry.Entry.{Entry}
+use Rattle.plans.specs.Exchange.{earliest, latest, replyFor, listens}
 use Rattle.histories.specs.Replies.{startOf, inWindow}
 
 -- a reply that starts s ticks after the plan's tag has that start, wherever the counter wraps

@@ -4,9 +4,9 @@ use mathlib.Core.Bool.{Bool, not, _&&_, _||_}
 use lib.ListN.{length}
 use lib.Dec.{eqb, leb}
 use Rattle.lists.specs.Lists.{pick, countOf}
-use Rattle.planner.specs.declared.request.Request.{Request}
-use Rattle.planner.specs.declared.shares.Setup.{Setup}
-use Rattle.planner.specs.Shares.{judged}
+use Rattle.plans.specs.declared.request.Request.{Request}
+use Rattle.plans.specs.declared.setup.Setup.{Setup}
+use Rattle.plans.specs.Shares.{judged}
 use Rattle.fields.specs.Formats.{surveillance}
 use Rattle.fields.specs.Building.{anAddress, selectiveRanged}
 use Rattle.histories.specs.declared.state.Value.the-variants.{Never}

@@ -4,7 +4,7 @@ use mathlib.Core.Path.{_≡_}
 use mathlib.Core.List.{List, map}
 use Rattle.remainders.specs.Corrected.{Corrected}
 use Rattle.fields.specs.Reading.{formatOf}
-use Rattle.planner.specs.Demand3.{Demand3}
+use Rattle.plans.specs.Demand3.{Demand3}
 use Rattle.histories.specs.declared.state.Station.{Station}
 use Rattle.histories.specs.State.{entriesOf, requestsOf}
 use Rattle.histories.specs.Calls.{reported}

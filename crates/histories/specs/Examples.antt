@@ -2,10 +2,10 @@
 use mathlib.Core.List.{List, _++_}
 use Rattle.lists.specs.Listing.{Row, Agrees, agrees-append}
 use Rattle.remainders.specs.Examples as parity
-use Rattle.planner.specs.Examples as planner
+use Rattle.plans.specs.Examples as plans
 
 abbrev pub listing : List Row
-listing = parity.listing ++ planner.listing
+listing = parity.listing ++ plans.listing
 
 pub listing-agrees : Agrees listing
-listing-agrees = agrees-append parity.listing planner.listing parity.listing-agrees planner.listing-agrees
+listing-agrees = agrees-append parity.listing plans.listing parity.listing-agrees plans.listing-agrees

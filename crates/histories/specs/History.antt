@@ -1,8 +1,8 @@
 -- Histories: the calls of a station since it was switched on. The newest call stands first.
 use Prim.Native.Nat.{ℕ}
 use mathlib.Core.List.{List, [], _∷_}
-use Rattle.planner.specs.declared.request.Request.{Request}
-use Rattle.planner.specs.declared.shares.Setup.{Setup}
+use Rattle.plans.specs.declared.request.Request.{Request}
+use Rattle.plans.specs.declared.setup.Setup.{Setup}
 use Rattle.histories.specs.declared.state.Station.{Station}
 use Rattle.histories.specs.declared.state.Answer.{Answer}
 use Rattle.histories.specs.State.{blank}

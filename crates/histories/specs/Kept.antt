@@ -3,9 +3,9 @@ use Prim.Native.Nat.{ℕ, _≤_}
 use mathlib.Core.Path.{_≡_}
 use mathlib.Core.Bool.{true}
 use Rattle.lists.specs.Lists.{All, countOf}
-use Rattle.planner.specs.declared.request.Request.{Request}
-use Rattle.planner.specs.declared.entry.Entry.{Entry}
-use Rattle.planner.specs.Shares.{judged}
+use Rattle.plans.specs.declared.request.Request.{Request}
+use Rattle.plans.specs.declared.entry.Entry.{Entry}
+use Rattle.plans.specs.Shares.{judged}
 use Rattle.histories.specs.declared.state.Target.{Target}
 use Rattle.histories.specs.declared.state.Targets.{Targets}
 use Rattle.histories.specs.declared.state.Station.{Station}

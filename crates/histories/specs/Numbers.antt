@@ -11,9 +11,9 @@ use Rattle.remainders.specs.Correction.{weight, matching, want, flipped, sized}
 use Rattle.fields.specs.Formats.{lengthOf}
 use Rattle.fields.specs.Building.{anAddress}
 use Rattle.fields.specs.Reading.{formatOf}
-use Rattle.planner.specs.declared.shares.Setup.{Setup}
-use Rattle.planner.specs.declared.request.Request.{Request}
-use Rattle.planner.specs.Shares.{inRange, ordered, sharesFit}
+use Rattle.plans.specs.declared.setup.Setup.{Setup}
+use Rattle.plans.specs.declared.request.Request.{Request}
+use Rattle.plans.specs.Shares.{inRange, ordered, sharesFit}
 use Rattle.histories.specs.declared.state.Station.{Station}
 use Rattle.histories.specs.State.{inList, targetsOf, requestsOf, isOf, entriesOf}
 use Rattle.histories.specs.Calls.{targetRanged, requestRanged}

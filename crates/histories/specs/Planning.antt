@@ -3,11 +3,11 @@ use Prim.Native.Nat.{ℕ}
 use mathlib.Core.List.{List, map}
 use lib.ListN.{length, replicate}
 use Rattle.lists.specs.Lists.{over}
-use Rattle.planner.specs.declared.request.Request.{Request}
-use Rattle.planner.specs.declared.request.Ask.{Ask}
-use Rattle.planner.specs.declared.request.Asks.{Asks}
-use Rattle.planner.specs.declared.entry.Entry.{Entry}
-use Rattle.planner.specs.Plan.{Board, plan}
+use Rattle.plans.specs.declared.request.Request.{Request}
+use Rattle.plans.specs.declared.request.Ask.{Ask}
+use Rattle.plans.specs.declared.request.Asks.{Asks}
+use Rattle.plans.specs.declared.entry.Entry.{Entry}
+use Rattle.plans.specs.Plan.{Board, plan}
 use Rattle.histories.specs.declared.state.Targets.{Targets}
 use Rattle.histories.specs.declared.state.Plan.{Plan}
 use Rattle.histories.specs.declared.state.Station.{Station}

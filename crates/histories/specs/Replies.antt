@@ -14,11 +14,11 @@ use Rattle.fields.specs.Fields.{headOf, valueAt, atACorID}
 use Rattle.fields.specs.Formats.{lengthOf}
 use Rattle.fields.specs.Reading.{formatOf}
 use Rattle.fields.specs.Shared.{drawn}
-use Rattle.planner.specs.declared.request.Request.{Request}
-use Rattle.planner.specs.declared.entry.Entry.{Entry}
-use Rattle.planner.specs.declared.entry.Mark.{Mark}
-use Rattle.planner.specs.declared.entry.Mark.the-variants.{Open, Answered, Withdrawn}
-use Rattle.planner.specs.Exchange.{earliest, delay, latest}
+use Rattle.plans.specs.declared.request.Request.{Request}
+use Rattle.plans.specs.declared.entry.Entry.{Entry}
+use Rattle.plans.specs.declared.entry.Mark.{Mark}
+use Rattle.plans.specs.declared.entry.Mark.the-variants.{Open, Answered, Withdrawn}
+use Rattle.plans.specs.Exchange.{earliest, delay, latest}
 use Rattle.histories.specs.declared.state.Value.the-variants.{Heard}
 use Rattle.histories.specs.declared.state.Target.{Target}
 use Rattle.histories.specs.declared.state.Targets.{Targets}

@@ -6,8 +6,8 @@ use mathlib.Core.Bool.{Bool, not, _&&_}
 use lib.Dec.{eqb}
 use lib.ListN.{getD}
 use Rattle.lists.specs.Lists.{pick}
-use Rattle.planner.specs.declared.request.Ask.{Ask}
-use Rattle.planner.specs.Demand3.{askOf}
+use Rattle.plans.specs.declared.request.Ask.{Ask}
+use Rattle.plans.specs.Demand3.{askOf}
 use Rattle.histories.specs.declared.state.Value.{Value}
 use Rattle.histories.specs.declared.state.Value.the-variants.{Never, Heard}
 use Rattle.histories.specs.declared.state.Report.{Report}

@@ -5,12 +5,12 @@ use mathlib.Core.Bool.{Bool, not}
 use lib.ListN.{length, take, set, getD, replicate}
 use lib.Dec.{eqb, ltb}
 use Rattle.lists.specs.Lists.{pick, indexOf, filter, over}
-use Rattle.planner.specs.declared.request.Request.{Request}
-use Rattle.planner.specs.declared.request.Ask.{Ask}
-use Rattle.planner.specs.declared.entry.Entry.{Entry}
-use Rattle.planner.specs.declared.entry.Mark.{Mark}
-use Rattle.planner.specs.declared.entry.Mark.the-variants.{Open, Answered, Withdrawn}
-use Rattle.planner.specs.declared.shares.Setup.{Setup}
+use Rattle.plans.specs.declared.request.Request.{Request}
+use Rattle.plans.specs.declared.request.Ask.{Ask}
+use Rattle.plans.specs.declared.entry.Entry.{Entry}
+use Rattle.plans.specs.declared.entry.Mark.{Mark}
+use Rattle.plans.specs.declared.entry.Mark.the-variants.{Open, Answered, Withdrawn}
+use Rattle.plans.specs.declared.setup.Setup.{Setup}
 use Rattle.histories.specs.declared.state.Value.{Value}
 use Rattle.histories.specs.declared.state.Value.the-variants.{Never, Heard}
 use Rattle.histories.specs.declared.state.Target.{Target}

@@ -1,7 +1,7 @@
 // The state of a station, by value and in parts, and what its calls answer.
-use planner::Entry;
-use planner::Request;
-use planner::Setup;
+use plans::Entry;
+use plans::Request;
+use plans::Setup;
 
 // What an aircraft said: AC or ID, with its age in plans.
 pub enum Value {

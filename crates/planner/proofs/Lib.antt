@@ -1,12 +1,5 @@
--- Laws of exchanges, of the search, of passes and of plans; the theorems of demand 3; the listings.
-pub mod Smallest
-pub mod Clear
+-- Laws of the search, of its rows and counts, and of the passes as the loops make them.
 pub mod Steps
 pub mod Rows
 pub mod Tallies
-pub mod Passes
 pub mod Sweeps
-pub mod Windows
-pub mod Keeps
-pub mod Guarantee
-pub mod Demand3

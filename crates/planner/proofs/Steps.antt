@@ -11,15 +11,15 @@ use lib.Dec.{leb}
 use borrow.Author.Tests.{le-leb, lt-leb, eq-eqb, ne-eqb}
 use Rattle.lists.proofs.Tests.{and-yes, and-no-left, and-no-right}
 use Rattle.lists.proofs.Front.{front-take}
-use Rattle.planner.specs.declared.request.Ask.{Ask}
-use Rattle.planner.specs.declared.entry.Entry.{Entry}
+use Rattle.plans.specs.declared.request.Ask.{Ask}
+use Rattle.plans.specs.declared.entry.Entry.{Entry}
 use Rattle.planner.specs.declared.exchange.Exchange.{Exchange}
-use Rattle.planner.specs.declared.search.Place.the-variants.{At, Nowhere}
-use Rattle.planner.specs.Exchange.{Span, exchangeOf, entryAt, transmits, listens, spans, apart, clear}
-use Rattle.planner.specs.Fits.{clearOf, fits, place}
-use Rattle.planner.specs.Promises.{Past, Step}
-use Rattle.planner.proofs.Smallest.{le-or-lt, late, place-at, place-none}
-use Rattle.planner.proofs.Clear.{or-right, clear-swap, clear-late, clear-of-none, clear-of-snoc, unclear-part}
+use Rattle.plans.specs.declared.plan.Place.the-variants.{At, Nowhere}
+use Rattle.plans.specs.Exchange.{Span, exchangeOf, entryAt, transmits, listens, spans, apart, clear}
+use Rattle.plans.specs.Fits.{clearOf, fits, place}
+use Rattle.planner.specs.Promises.{held, Past, Step}
+use Rattle.plans.proofs.Smallest.{le-or-lt, late, place-at, place-none}
+use Rattle.plans.proofs.Clear.{or-right, clear-swap, clear-late, clear-of-none, clear-of-snoc, unclear-part}
 
 -- one interval of an exchange against one of another
 past-step : (p : ℕ → Span) (q : Span) (a b lo hi t r : ℕ) → ((j : ℕ) → p j .lo ≡ j + a) → ((j : ℕ) → p j .hi ≡ j + b) → q .lo ≡ lo → q .hi ≡ hi → Past t a b lo hi r → Step (λ (j : ℕ). apart (p j) q) t r
@@ -58,7 +58,7 @@ stay-put : (f : ℕ → Bool) (t : ℕ) → t ≤ 200000 → f t ≡ true → St
 stay-put f t small passes = record { up = omega arith; cap = small; none = λ j from to. absurd (omega arith); same = λ e. passes }
 
 -- a request tried from t on, against an entry e
-module _ (a : Ask) (e : Entry) (t : ℕ) (p : Exchange) (at sent from end : ℕ) (x : p ≡ exchangeOf a) (at-is : at ≡ transmits e .lo) (sent-is : sent ≡ transmits e .hi) (from-is : from ≡ listens e .lo) (end-is : end ≡ listens e .hi) where
+module _ (a : Ask) (e : Entry) (t : ℕ) (p : Exchange) (at sent from end : ℕ) (x : p ≡ held (exchangeOf a)) (at-is : at ≡ transmits e .lo) (sent-is : sent ≡ transmits e .hi) (from-is : from ≡ listens e .lo) (end-is : end ≡ listens e .hi) where
   p-sent : p .sent ≡ exchangeOf a .sent
   p-sent = ap (λ (r : Exchange). r .sent) x
 

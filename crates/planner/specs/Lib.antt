@@ -1,8 +1,2 @@
--- The definitions: a file for each topic of document 01's "Ticks, windows, shares".
-pub mod Exchange
-pub mod Fits
-pub mod Shares
-pub mod Plan
-pub mod Demand3
+-- What the calls and the parts of the planner promise; document 01's own definitions stand in crate plans.
 pub mod Promises
-pub mod Examples

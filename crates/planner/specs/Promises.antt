@@ -1,18 +1,25 @@
--- What the parts of the search promise each other.
+-- What the constructors of an exchange give, and what the parts of the search promise each other.
 use Prim.Native.Nat.{ℕ, _+_, _*_, _≤_, _<_}
 use mathlib.Core.Path.{_≡_}
 use mathlib.Core.Logic.{_⊎_}
 use mathlib.Core.Bool.{Bool, true, false}
-use Rattle.planner.specs.declared.exchange.Exchange.{Exchange}
 use mathlib.Core.List.{List}
 use lib.ListN.{length, getD, take, set}
-use Rattle.planner.specs.declared.request.Ask.{Ask}
-use Rattle.planner.specs.declared.entry.Entry.{Entry}
-use Rattle.planner.specs.declared.search.Place.{Place}
-use Rattle.planner.specs.Exchange.{sentLong, earliest, longest, exchangeOf, entryAt, transmits, listens, clear}
-use Rattle.planner.specs.Fits.{place}
-use Rattle.planner.specs.Shares.{share}
-use Rattle.planner.specs.Plan.{taken}
+use lib.Dec.{ltb}
+use Rattle.lists.specs.Lists.{pick}
+use Rattle.planner.specs.declared.exchange.Exchange.{Exchange}
+use Rattle.plans.specs.declared.request.Ask.{Ask}
+use Rattle.plans.specs.declared.entry.Entry.{Entry}
+use Rattle.plans.specs.declared.plan.Place.{Place}
+use Rattle.plans.specs.declared.plan.Place.the-variants.{Nowhere}
+use Rattle.plans.specs.Exchange.{Course, sentLong, earliest, longest, exchangeOf, entryAt, transmits, listens, clear}
+use Rattle.plans.specs.Fits.{place}
+use Rattle.plans.specs.Shares.{share}
+use Rattle.plans.specs.Plan.{taken}
+
+-- an exchange of the definitions, as the code holds it
+abbrev pub held : Course → Exchange
+held x = record { sent = x .sent; from = x .from; to = x .to }
 
 -- near and far are numbers of 16 bits, so an exchange is no longer than this, and the search's sums have room
 pub record Small (x : Exchange) : Type 0 where
@@ -38,7 +45,7 @@ pub record Step (f : ℕ → Bool) (t r : ℕ) : Type 0 where
 pub record Clearing (p : Exchange) (address at sent from end its t r : ℕ) : Type 0 where
   pub up : t ≤ r
   pub cap : r ≤ 200000
-  pub step : (a : Ask) (e : Entry) → p ≡ exchangeOf a → address ≡ a .request .address → at ≡ transmits e .lo → sent ≡ transmits e .hi → from ≡ listens e .lo → end ≡ listens e .hi → its ≡ e .ask .request .address → Step (λ (j : ℕ). clear (entryAt a j) e) t r
+  pub step : (a : Ask) (e : Entry) → p ≡ held (exchangeOf a) → address ≡ a .request .address → at ≡ transmits e .lo → sent ≡ transmits e .hi → from ≡ listens e .lo → end ≡ listens e .hi → its ≡ e .ask .request .address → Step (λ (j : ℕ). clear (entryAt a j) e) t r
 
 -- the search reads five numbers of each entry placed: row i tells of e its start, the end of its interrogation, the start and the
 -- end of its window, and its address
@@ -69,11 +76,15 @@ noted e i rows =
 pub record ClearingRow (p : Exchange) (address : ℕ) (rows : List ℕ) (i t r : ℕ) : Type 0 where
   pub up : t ≤ r
   pub cap : r ≤ 200000
-  pub step : (a : Ask) (e : Entry) → p ≡ exchangeOf a → address ≡ a .request .address → Told rows i e → Step (λ (j : ℕ). clear (entryAt a j) e) t r
+  pub step : (a : Ask) (e : Entry) → p ≡ held (exchangeOf a) → address ≡ a .request .address → Told rows i e → Step (λ (j : ℕ). clear (entryAt a j) e) t r
 
 -- the place of a request beside the first n of any entries that the rows show
 abbrev pub Placing : ℕ → Ask → ℕ → List ℕ → Place → Type 0
 Placing L a n rows r = (es : List Entry) → n ≤ length es → Shown rows n es → r ≡ place L (take n es) a
+
+-- the same for a request whose unit has a limit and so many placed
+abbrev pub Trying : ℕ → ℕ → ℕ → Ask → ℕ → List ℕ → Place → Type 0
+Trying limit count L a n rows r = (es : List Entry) → n ≤ length es → Shown rows n es → r ≡ pick (ltb count limit) (place L (take n es) a) Nowhere
 
 -- a list of eight counts says how many entries each unit has
 pub record Tallied (counts : List ℕ) (es : List Entry) : Type 0 where

@@ -1,18 +1,19 @@
-// The roll-call planner: exchanges, shares and plans, as document 01 has them under "Ticks, windows, shares".
+// The calls of the roll-call planner: exchanges, shares and plans. Their definitions, those of document 01's "Ticks, windows, shares", stand in crate plans.
 mod entry;
 mod exchange;
 mod plan;
-mod request;
 mod search;
 mod shares;
 
-pub use entry::Entry;
-pub use entry::Mark;
+pub use entry::entry_at;
 pub use exchange::Exchange;
-pub use plan::Planned;
 pub use plan::make_plan;
-pub use request::Ask;
-pub use request::Asks;
-pub use request::Request;
-pub use shares::Setup;
+pub use plans::Ask;
+pub use plans::Asks;
+pub use plans::Entry;
+pub use plans::Mark;
+pub use plans::Place;
+pub use plans::Planned;
+pub use plans::Request;
+pub use plans::Setup;
 pub use shares::judge;

@@ -2,27 +2,21 @@
 ghost use mathlib.Core.Path.{_≡_};
 ghost use Prim.Native.Nat.{_+_, _≤_, _<_, min};
 ghost use lib.ListN.{length, take, set};
-ghost use Rattle.planner.specs.Exchange.{entryAt, listens};
-ghost use Rattle.planner.specs.Shares.{share};
-ghost use Rattle.planner.specs.Plan.{alone, passOver, plan, boardOf, asksOf, planned};
+ghost use Rattle.plans.specs.Exchange.{entryAt, listens};
+ghost use Rattle.plans.specs.Shares.{share};
+ghost use Rattle.plans.specs.Plan.{alone, passOver, plan, boardOf, asksOf, planned};
 ghost use Rattle.planner.specs.Promises.{Tallied, noted, Shown};
-use crate::entry::Entry;
+use crate::entry::entry_at;
 use crate::exchange::Exchange;
 use crate::exchange::wide;
-use crate::request::Ask;
-use crate::request::Asks;
-use crate::search::Place;
-use crate::search::first_fit;
-use crate::shares::Setup;
+use crate::search::try_fit;
 use crate::shares::share;
-
-// What is placed, in the order placed, and what still waits, the oldest first.
-pub struct Planned {
-    pub placed: usize,
-    pub entries: [Entry; 128],
-    pub waiting: usize,
-    pub asks: [Ask; 128],
-}
+use plans::Ask;
+use plans::Asks;
+use plans::Entry;
+use plans::Place;
+use plans::Planned;
+use plans::Setup;
 
 // How many slots count: the count, or all of them where the count is too large.
 fn live(n: usize) -> usize
@@ -118,17 +112,13 @@ fn sweep(l: u32, limits: [u8; 8], base: [Ask; 128], b: Planned) -> Planned
     while i < m {
         let a = asks[i];
         i += 1;
-        if share(limits, a.request.unit) <= share(counts, a.request.unit) {
-            left[waiting] = a;
-            waiting += 1;
-            continue;
-        }
-        let s = first_fit(l, a, placed, &rows);
+        let u = a.request.unit;
+        let s = try_fit(share(limits, u), share(counts, u), l, a, placed, &rows);
         match s {
             Place::At(t) => {
-                entries[placed] = Entry::at(a, t);
+                entries[placed] = entry_at(a, t);
                 note(&mut rows, placed, a, t);
-                one_more(&mut counts, a.request.unit);
+                one_more(&mut counts, u);
                 placed += 1;
             }
             Place::Nowhere => {

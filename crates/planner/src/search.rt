@@ -1,14 +1,9 @@
 // The search for the smallest start that fits, which jumps past what is in the way.
 ghost use Prim.Native.Nat.{ℕ, _≤_, _<_};
-ghost use Rattle.planner.specs.Promises.{Past, Small, Clearing, ClearingRow, Roomy, Placing};
+ghost use Rattle.planner.specs.Promises.{Past, Small, Clearing, ClearingRow, Roomy, Placing, Trying};
 use crate::exchange::Exchange;
-use crate::request::Ask;
-
-// Where a request goes.
-pub enum Place {
-    At(u16),
-    Nowhere,
-}
+use plans::Ask;
+use plans::Place;
 
 // The first start from t on at which the interval from a up to b after it is apart from the one from lo up to hi.
 fn past(t: u32, a: u32, b: u32, lo: u32, hi: u32) -> u32
@@ -68,7 +63,7 @@ fn nudge(t: u32, p: Exchange, address: u32, i: usize, rows: &[u32; 640]) -> u32
 
 // The smallest start that fits beside the n entries that the rows show: round after round over them, from where the last one came
 // to, until one moves nothing.
-pub(crate) fn first_fit(l: u32, a: Ask, n: usize, rows: &[u32; 640]) -> Place
+fn first_fit(l: u32, a: Ask, n: usize, rows: &[u32; 640]) -> Place
     requires { ⌜ (l ≤ 65535) × (n ≤ 128) × ((i : ℕ) → i < n → Roomy (now rows) i) ⌝ }
     ensures { λ r. ⌜ Placing l a n (now (rows .entry)) r ⌝ }
 {
@@ -94,4 +89,15 @@ pub(crate) fn first_fit(l: u32, a: Ask, n: usize, rows: &[u32; 640]) -> Place
         i = 0;
     }
     Place::Nowhere
+}
+
+// The same for a request whose unit has so many placed: a unit at its limit gets no place.
+pub(crate) fn try_fit(limit: u32, count: u32, l: u32, a: Ask, n: usize, rows: &[u32; 640]) -> Place
+    requires { ⌜ (l ≤ 65535) × (n ≤ 128) × ((i : ℕ) → i < n → Roomy (now rows) i) ⌝ }
+    ensures { λ r. ⌜ Trying limit count l a n (now (rows .entry)) r ⌝ }
+{
+    if limit <= count {
+        return Place::Nowhere;
+    }
+    first_fit(l, a, n, rows)
 }

@@ -1,20 +1,11 @@
-// A setup, its shares, and whether they fit.
+// The shares of a setup, and whether they fit.
 ghost use mathlib.Core.Path.{_≡_};
 ghost use Prim.Native.Nat.{_≤_};
 ghost use Rattle.lists.specs.Lists.{total, every};
-ghost use Rattle.planner.specs.Shares.{share, inRange, ordered, sharesFit, judged};
+ghost use Rattle.plans.specs.Shares.{share, inRange, ordered, sharesFit, judged};
 use crate::exchange::Exchange;
 use crate::exchange::wide;
-
-// Period L, reach R, correction limit, and each unit's guarantee and ceiling.
-#[repr(C)]
-pub struct Setup {
-    pub period: u16,
-    pub reach: u16,
-    pub limit: u8,
-    pub guarantee: [u8; 8],
-    pub ceiling: [u8; 8],
-}
+use plans::Setup;
 
 // A number of 8 bits among those of 32.
 fn byte(x: u8) -> u32

@@ -2,8 +2,8 @@
 use Prim.Native.Nat.{ℕ, _+_, min}
 use mathlib.Core.List.{List, [], _∷_}
 use lib.ListN.{length, getD}
-use Rattle.planner.specs.declared.request.Request.{Request}
-use Rattle.planner.specs.declared.shares.Setup.{Setup}
+use Rattle.plans.specs.declared.request.Request.{Request}
+use Rattle.plans.specs.declared.setup.Setup.{Setup}
 use Rattle.records.specs.declared.fields.Edges.{Edges}
 use Rattle.records.specs.declared.fields.Reply.{Reply}
 use Rattle.records.specs.Records.{numberAt, messageLength}

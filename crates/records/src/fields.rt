@@ -7,8 +7,8 @@ use crate::kinds::message_length;
 use crate::reading::byte_at;
 use crate::reading::number_at;
 use crate::reading::place_after;
-use planner::Request;
-use planner::Setup;
+use plans::Request;
+use plans::Setup;
 
 // The address of a target with near and far.
 pub struct Edges {

@@ -8,7 +8,7 @@ use borrow.Author.Tests.{eq-eqb, ne-eqb, lt-ltb, le-ltb}
 use lib.ListN.{length}
 use Rattle.remainders.specs.Correction.{sized}
 use Rattle.fields.specs.Formats.{lengthOf}
-use Rattle.planner.specs.declared.entry.Entry.{Entry}
+use Rattle.plans.specs.declared.entry.Entry.{Entry}
 use Rattle.histories.specs.declared.state.Station.{Station}
 use Rattle.histories.specs.State.{entriesOf}
 use Rattle.histories.specs.Replies.{expected, startOf, inWindow, entryNumbered, isOpen, refusedReply, settled, corrected, replied}

@@ -6,10 +6,10 @@ use Prim.Native.Nat.{ℕ}
 use lib.ListN.{length, take}
 use Rattle.lists.specs.Lists.{over}
 use Rattle.lists.proofs.Over.{take-over}
-use Rattle.planner.specs.declared.request.Ask.{Ask}
-use Rattle.planner.specs.declared.request.Asks.{Asks}
-use Rattle.planner.specs.declared.plan.Planned.{Planned}
-use Rattle.planner.specs.Plan.{plan, planned, asksOf}
+use Rattle.plans.specs.declared.request.Ask.{Ask}
+use Rattle.plans.specs.declared.request.Asks.{Asks}
+use Rattle.plans.specs.declared.plan.Planned.{Planned}
+use Rattle.plans.specs.Plan.{plan, planned, asksOf}
 use Rattle.histories.specs.declared.state.Targets.{Targets}
 use Rattle.histories.specs.declared.state.Waiting.{Waiting}
 use Rattle.histories.specs.declared.state.Station.{Station}

@@ -11,7 +11,7 @@ use Rattle.lists.specs.Lists.{pick}
 use Rattle.remainders.specs.Answers.{Outcome}
 use Rattle.remainders.specs.Correction.{correction}
 use Rattle.fields.specs.Reading.{formatOf}
-use Rattle.planner.specs.declared.entry.Entry.{Entry}
+use Rattle.plans.specs.declared.entry.Entry.{Entry}
 use Rattle.station.specs.declared.correcting.Corrected.{Corrected}
 use Rattle.histories.specs.declared.state.Targets.{Targets}
 use Rattle.histories.specs.declared.state.Plan.{Plan}

@@ -8,8 +8,8 @@ use borrow.Author.Tests.{leb-true, leb-false, le-leb, lt-leb}
 use lib.Dec.{leb}
 use Rattle.lists.specs.Lists.{pick}
 use Rattle.lists.proofs.Tests.{and-true}
-use Rattle.planner.specs.declared.entry.Entry.{Entry}
-use Rattle.planner.specs.Exchange.{earliest, latest}
+use Rattle.plans.specs.declared.entry.Entry.{Entry}
+use Rattle.plans.specs.Exchange.{earliest, latest}
 use Rattle.histories.specs.Replies.{startOf, inWindow}
 
 pub start-is : (tag from r : ℕ) → from < 2 ^ 32 → r < 2 ^ 32 → (r + from) % 2 ^ 32 ≡ tag → r ≡ startOf tag from

@@ -11,7 +11,7 @@ use histories::Report;
 use histories::Station;
 use histories::Target;
 use histories::Value;
-use planner::Request;
+use plans::Request;
 
 // A new target is the last in the list, and nothing was heard of it.
 pub fn add_target(s: Station, address: u32, near: u16, far: u16) -> Answer

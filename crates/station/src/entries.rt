@@ -7,9 +7,9 @@ ghost use Rattle.histories.specs.Replies.{isOpen, planAnswered};
 use crate::slots::live;
 use crate::waiting::no_request;
 use histories::Plan;
-use planner::Ask;
-use planner::Entry;
-use planner::Mark;
+use plans::Ask;
+use plans::Entry;
+use plans::Mark;
 
 // A slot that holds no request with its edges.
 pub(crate) fn no_ask() -> Ask

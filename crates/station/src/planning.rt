@@ -12,9 +12,9 @@ use histories::Plan;
 use histories::Station;
 use histories::Targets;
 use histories::Waiting;
-use planner::Ask;
-use planner::Asks;
-use planner::Request;
+use plans::Ask;
+use plans::Asks;
+use plans::Request;
 
 // A request with near and far of its target as they are now.
 fn ask_for(t: Targets, q: Request) -> Ask

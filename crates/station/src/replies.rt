@@ -24,7 +24,7 @@ use histories::Station;
 use histories::Target;
 use histories::Targets;
 use histories::Value;
-use planner::Request;
+use plans::Request;
 
 // The format of the reply that a request expects.
 fn expected(q: Request) -> u8

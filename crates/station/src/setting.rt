@@ -10,7 +10,7 @@ use histories::Plan;
 use histories::Station;
 use histories::Targets;
 use histories::Waiting;
-use planner::Setup;
+use plans::Setup;
 
 // Nothing held, nothing waiting, no plan, and this setup.
 fn emptied(setup: Setup) -> Station

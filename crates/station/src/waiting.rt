@@ -7,7 +7,7 @@ ghost use Rattle.histories.specs.State.{requestsOf, isOf, waitingWith, waitingW
 ghost use Rattle.histories.specs.Calls.{unitFull};
 use crate::slots::live;
 use histories::Waiting;
-use planner::Request;
+use plans::Request;
 
 // A slot that holds no request.
 pub(crate) fn no_request() -> Request

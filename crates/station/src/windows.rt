@@ -7,8 +7,8 @@ ghost use mir.Syntax.{w32};
 ghost use mir.Val.{SFits};
 ghost use Rattle.histories.specs.Replies.{startOf, inWindow, delayOf};
 use crate::ranges::wide;
-use planner::Entry;
 use planner::Exchange;
+use plans::Entry;
 
 // A reply's start: its tag minus the plan's tag, on a counter of 32 bits that wraps.
 pub(crate) fn start_of(tag: u32, from: u32) -> u32

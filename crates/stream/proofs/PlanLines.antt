@@ -6,9 +6,10 @@ use mathlib.Core.List.{List, [], _∷_, _++_}
 use lib.ListN.{length, getD, take, drop}
 use Rattle.lists.proofs.Front.{front-drop, front-end}
 use Rattle.text.specs.Put.{decimal}
-use Rattle.planner.specs.declared.entry.Entry.{Entry}
+use Rattle.plans.specs.declared.entry.Entry.{Entry}
+use Rattle.plans.specs.Exchange.{exchangeOf}
 use Rattle.planner.specs.declared.exchange.Exchange.{Exchange}
-use Rattle.planner.specs.Exchange.{exchangeOf}
+use Rattle.planner.specs.Promises.{held}
 use Rattle.transcripts.specs.Lines.{line, entryLine, entryLines}
 use Rattle.stream.specs.Calls.{Within}
 
@@ -22,7 +23,7 @@ unfolding entryLines
 entries-none m l i b = rw (front-end m l i b)
 
 -- an entry's line by its exchange
-pub entry-put : (k : ℕ) (e : Entry) {x : Exchange} → x ≡ exchangeOf (e .ask) → {at r : ℕ} {l m : List ℕ}
+pub entry-put : (k : ℕ) (e : Entry) {x : Exchange} → x ≡ held (exchangeOf (e .ask)) → {at r : ℕ} {l m : List ℕ}
     → Within
     72
     (line

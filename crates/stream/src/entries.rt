@@ -9,8 +9,8 @@ ghost use Rattle.stream.specs.Calls.{Within};
 use crate::words::NEWLINE;
 use crate::words::SPACE;
 use crate::words::put_number;
-use planner::Entry;
 use planner::Exchange;
+use plans::Entry;
 
 // A line of six numbers.
 fn put_six(out: &mut [u8], at: usize, a: u32, b: u32, c: u32, d: u32, e: u32, f: u32) -> usize

@@ -5,10 +5,10 @@ use mathlib.Core.List.{List, [], _∷_, _++_}
 use Rattle.lists.specs.Lists.{every, countOf, indexOf, filter, over, total}
 use Rattle.text.specs.Put.{decimalIn, decimal}
 use Rattle.text.specs.Plain.{plain}
-use Rattle.planner.specs.Exchange.{sentFor, replyFor, apart, clear}
-use Rattle.planner.specs.Fits.{clearOf, fits, first, place}
-use Rattle.planner.specs.Shares.{sharesFit, judged}
-use Rattle.planner.specs.Plan.{tried, pass, alone, turns, plan}
+use Rattle.plans.specs.Exchange.{sentFor, replyFor, apart, clear}
+use Rattle.plans.specs.Fits.{clearOf, fits, first, place}
+use Rattle.plans.specs.Shares.{sharesFit, judged}
+use Rattle.plans.specs.Plan.{tried, pass, alone, turns, plan}
 use Rattle.fields.specs.Building.{selectiveRanged}
 use Rattle.records.specs.Records.{bodyLength, numberAt, recordAt}
 use Rattle.records.specs.Fields.{eightAt}

@@ -5,8 +5,8 @@ use lib.IntN.{negsuc}
 use Rattle.text.specs.Put.{decimalIn, decimal}
 use Rattle.text.specs.Signed.{signedDecimal}
 use Rattle.text.specs.Plain.{plain}
-use Rattle.planner.specs.declared.request.Ask.{Ask}
-use Rattle.planner.specs.Exchange.{sentFor, replyFor, entryAt}
+use Rattle.plans.specs.declared.request.Ask.{Ask}
+use Rattle.plans.specs.Exchange.{sentFor, replyFor, entryAt}
 use Rattle.records.specs.Records.{bodyLength, recordAt}
 use Rattle.histories.specs.declared.state.Value.the-variants.{Never, Heard}
 use Rattle.transcripts.specs.Lines.{line, answerLine, replyLine, entryLine, valueWord, ageWord, reportLine}

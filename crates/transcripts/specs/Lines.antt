@@ -4,8 +4,8 @@ use mathlib.Core.List.{List, [], _∷_, _++_}
 use lib.IntN.{ℤ}
 use Rattle.text.specs.Put.{decimal}
 use Rattle.text.specs.Signed.{signedDecimal}
-use Rattle.planner.specs.declared.entry.Entry.{Entry}
-use Rattle.planner.specs.Exchange.{listens}
+use Rattle.plans.specs.declared.entry.Entry.{Entry}
+use Rattle.plans.specs.Exchange.{listens}
 use Rattle.histories.specs.declared.state.Value.{Value}
 use Rattle.histories.specs.declared.state.Value.the-variants.{Never, Heard}
 

@@ -4,11 +4,11 @@ use native.Mathlib.Omega.{arith}
 use mathlib.Core.Path.{_≡_, refl, ap}
 use mathlib.Core.List.{List}
 use lib.ListN.{length}
-use Rattle.planner.specs.declared.request.Ask.{Ask}
-use Rattle.planner.specs.declared.entry.Entry.{Entry}
+use Rattle.plans.specs.declared.request.Ask.{Ask}
+use Rattle.plans.specs.declared.entry.Entry.{Entry}
 use Rattle.planner.specs.declared.exchange.Exchange.{Exchange}
-use Rattle.planner.specs.Exchange.{exchangeOf, entryAt}
-use Rattle.planner.specs.Promises.{Roomy, Shown}
+use Rattle.plans.specs.Exchange.{exchangeOf, entryAt}
+use Rattle.planner.specs.Promises.{held, Roomy, Shown}
 use Rattle.planner.proofs.Steps.{Rounds, round-first, round-new, round-more, found, none-left}
 use borrow.Author.Needs.{needs}
 use Rattle.planner.proofs.search.first_fit.Statement.{statement}
@@ -16,7 +16,7 @@ use Rattle.planner.proofs.search.first_fit.Tie as tie
 
 -- the rounds of any request and entries that the numbers tell of, and the bounds of the numbers themselves
 abbrev Inv-loop : tie.InvT-loop
-Inv-loop l n rows p last address from₀ t₀ i₀ from t i = ((a : Ask) (es : List Entry) → p ≡ exchangeOf a → address ≡ a .request .address → n ≤ length es → Shown rows n es → Rounds l a n es from t i) × (from ≤ t) × (t ≤ 200000) × (i ≤ n) × ((k : ℕ) → k < n → Roomy rows k)
+Inv-loop l n rows p last address from₀ t₀ i₀ from t i = ((a : Ask) (es : List Entry) → p ≡ held (exchangeOf a) → address ≡ a .request .address → n ≤ length es → Shown rows n es → Rounds l a n es from t i) × (from ≤ t) × (t ≤ 200000) × (i ≤ n) × ((k : ℕ) → k < n → Roomy rows k)
 
 abbrev μ-loop : tie.MeasureT-loop
 μ-loop l n rows p last address from₀ t₀ i₀ from t i = (l - from) * 130 + (n - i)

@@ -1,6 +1,6 @@
 -- `judge` asks the tests of a setup in their order.
 use borrow.Author.Tests.{le-leb, lt-leb}
-use Rattle.planner.specs.Shares.{judged}
+use Rattle.plans.specs.Shares.{judged}
 use borrow.Author.Needs.{needs}
 use Rattle.planner.proofs.shares.judge.Statement.{statement}
 use Rattle.planner.proofs.shares.judge.Tie as tie

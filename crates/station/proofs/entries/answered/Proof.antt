@@ -5,7 +5,7 @@ use native.Mathlib.Omega.{arith}
 use lib.ListN.{length, getD, set, length-set, length-take}
 use Rattle.lists.proofs.Front.{length-mapped}
 use Rattle.lists.proofs.Over.{front-set}
-use Rattle.planner.specs.declared.entry.Mark.the-variants.{Answered}
+use Rattle.plans.specs.declared.entry.Mark.the-variants.{Answered}
 use Rattle.histories.specs.State.{entriesOf, marked, noEntry}
 use borrow.Author.Needs.{needs}
 use Rattle.station.proofs.entries.answered.Statement.{statement}

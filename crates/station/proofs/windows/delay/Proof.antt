@@ -4,7 +4,7 @@ use mathlib.Core.Path.{_∙_}
 use native.Mathlib.Omega.{arith}
 use Prim.Native.Nat.{_+_, _^_, _<_}
 use Rattle.lists.proofs.Signed.{minus-holds, minus-kept}
-use Rattle.planner.specs.Exchange.{delay}
+use Rattle.plans.specs.Exchange.{delay}
 use Rattle.station.proofs.Ticks.{before-end}
 use borrow.Author.Needs.{needs}
 use Rattle.station.proofs.windows.delay.Statement.{statement}
