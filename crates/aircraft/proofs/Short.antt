@@ -7,10 +7,10 @@ use mathlib.Core.List.{List, [], _∷_, _++_}
 use lib.Dec.{ltb}
 use lib.ListN.{length, length-append}
 use Rattle.lists.specs.Lists.{pick}
-use Rattle.text.specs.Put.{decimal}
-use Rattle.text.specs.Plain.{plain}
-use Rattle.text.proofs.Decimal.{decimal-length, decimal-fits}
-use Rattle.text.proofs.HexMade.{hex-of-length}
+use Rattle.letters.specs.Put.{decimal}
+use Rattle.letters.specs.Plain.{plain}
+use Rattle.letters.proofs.Decimal.{decimal-length, decimal-fits}
+use Rattle.letters.proofs.HexMade.{hex-of-length}
 use Rattle.commands.specs.Texts.{doneText, refusalText}
 use Rattle.transponder.specs.declared.state.Lock.{Lock}
 use Rattle.transponder.specs.declared.state.Timer.{Timer}

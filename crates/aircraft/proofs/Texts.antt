@@ -9,9 +9,9 @@ use lib.Seq.{drop-cons, take-all}
 use lib.ListN.{length, getD, take, drop, drop-of-length-le}
 use borrow.Author.Tests.{lt-ltb, le-ltb, not-true, not-false}
 use Rattle.lists.specs.Lists.{pick}
-use Rattle.text.specs.Put.{decimal}
-use Rattle.text.specs.Plain.{plain}
-use Rattle.text.specs.Hex.{hexOf}
+use Rattle.letters.specs.Put.{decimal}
+use Rattle.letters.specs.Plain.{plain}
+use Rattle.letters.specs.Hex.{hexOf}
 use Rattle.transponder.specs.declared.state.Lock.{Lock}
 use Rattle.transponder.specs.declared.state.Timer.{Timer}
 use Rattle.transponder.specs.Lockout.{locks}

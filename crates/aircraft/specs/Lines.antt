@@ -7,11 +7,11 @@ use mathlib.Core.Option.{Option}
 use lib.Dec.{eqb, ltb}
 use lib.ListN.{length, take}
 use Rattle.lists.specs.Lists.{pick}
-use Rattle.text.specs.Put.{Put, decimal}
-use Rattle.text.specs.Plain.{plain}
-use Rattle.text.specs.Number.{numberIn}
-use Rattle.text.specs.Hex.{hexOf, bytesIn}
-use Rattle.text.specs.declared.answer.Number.{Number}
+use Rattle.letters.specs.Put.{Put, decimal}
+use Rattle.letters.specs.Plain.{plain}
+use Rattle.letters.specs.Number.{numberIn}
+use Rattle.letters.specs.Hex.{hexOf, bytesIn}
+use Rattle.letters.specs.declared.answer.Number.{Number}
 use Rattle.commands.specs.Texts.{unread, word, ofNumber, ofBytes, doneText, refusalText, answerText}
 use Rattle.transponder.specs.declared.state.Lock.{Lock}
 use Rattle.transponder.specs.declared.state.Timer.{Timer}

@@ -1,11 +1,11 @@
 // The line `model ADDRESS AC ID FS CA`.
-ghost use Rattle.text.specs.Line.{wordsOf};
+ghost use Rattle.letters.specs.Line.{wordsOf};
 ghost use Rattle.aircraft.specs.Lines.{Showed, madeSaid, modelSaid};
 use crate::answers::put_number;
 use crate::answers::put_unread;
 use crate::state::Aircraft;
 use crate::state::Shown;
-use text::Number;
+use letters::Number;
 use transponder::Made;
 
 // The aircraft that was made, or the one before.

@@ -1,14 +1,14 @@
 // The line `send TIME DRAW HEX`.
 ghost use lib.ListN.{take};
-ghost use Rattle.text.specs.Put.{Put};
-ghost use Rattle.text.specs.Line.{wordsOf};
+ghost use Rattle.letters.specs.Put.{Put};
+ghost use Rattle.letters.specs.Line.{wordsOf};
 ghost use Rattle.aircraft.specs.Lines.{Showed, replyText, tookSaid, sendSaid};
 use crate::answers::put_number;
 use crate::answers::put_unread;
 use crate::state::Aircraft;
 use crate::state::Shown;
-use text::Hex;
-use text::Number;
+use letters::Hex;
+use letters::Number;
 use transponder::Took;
 
 // The first n bytes of a reply, or "-" for none.

@@ -1,7 +1,7 @@
 // The line `state`.
 ghost use Prim.Native.Nat.{_≤_};
 ghost use lib.ListN.{length};
-ghost use Rattle.text.specs.Put.{Put};
+ghost use Rattle.letters.specs.Put.{Put};
 ghost use Rattle.aircraft.specs.Lines.{Showed, holderText, lockText, locksText, stateText, stateSaid};
 use crate::answers::put_unread;
 use crate::state::Aircraft;

@@ -6,10 +6,10 @@ use mathlib.Core.Bool.{true, false}
 use mathlib.Core.List.{List, [], _∷_}
 use lib.Dec.{eqb}
 use lib.ListN.{length, getD, take, drop}
-use Rattle.text.specs.Line.{wordsOf, within, LineHeld}
-use Rattle.text.specs.Put.{Put}
-use Rattle.text.specs.declared.answer.Span.{Span}
-use Rattle.text.proofs.Run.{took}
+use Rattle.letters.specs.Line.{wordsOf, within, LineHeld}
+use Rattle.letters.specs.Put.{Put}
+use Rattle.letters.specs.declared.answer.Span.{Span}
+use Rattle.letters.proofs.Run.{took}
 use Rattle.commands.specs.Texts.{word}
 use Rattle.aircraft.specs.declared.state.Aircraft.{Aircraft}
 use Rattle.aircraft.specs.declared.state.Shown.{Shown}

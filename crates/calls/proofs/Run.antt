@@ -4,9 +4,9 @@ use native.Mathlib.Omega.{arith, min-cases}
 use mathlib.Core.Path.{_≡_, sym, ap, _∙_}
 use mathlib.Core.List.{List, [], _++_}
 use lib.ListN.{length, take, drop}
-use Rattle.text.specs.Line.{lineAt, lineEnd, linesOf}
-use Rattle.text.proofs.Lines.{lines-next, lines-end}
-use Rattle.text.proofs.Run as run
+use Rattle.letters.specs.Line.{lineAt, lineEnd, linesOf}
+use Rattle.letters.proofs.Lines.{lines-next, lines-end}
+use Rattle.letters.proofs.Run as run
 use Rattle.aircraft.specs.declared.state.Aircraft.{Aircraft}
 use Rattle.aircraft.specs.Lines.{unmade}
 use Rattle.calls.specs.declared.console.Answer.{Answer}

@@ -7,8 +7,8 @@ use mathlib.Core.Bool.{true, false}
 use mathlib.Core.List.{List, [], _∷_, map}
 use lib.ListN.{length, getD, take, drop, List·getD-map}
 use lib.Seq.{drop-cons}
-use Rattle.text.specs.Line.{linesOf, wordsOf, parts, full, grown, blank, newline, sameAs}
-use Rattle.text.specs.Plain.{plain}
+use Rattle.letters.specs.Line.{linesOf, wordsOf, parts, full, grown, blank, newline, sameAs}
+use Rattle.letters.specs.Plain.{plain}
 use Rattle.commands.specs.Texts.{word}
 use Rattle.calls.specs.declared.names.Command.{Command}
 use Rattle.calls.specs.declared.names.Command.the-variants.{Unknown}

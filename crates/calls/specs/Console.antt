@@ -6,8 +6,8 @@ use mathlib.Core.List.{List, [], _∷_, _++_}
 use lib.Dec.{eqb}
 use lib.ListN.{length}
 use Rattle.lists.specs.Lists.{pick}
-use Rattle.text.specs.Line.{lineAt, linesOf, wordsOf}
-use Rattle.text.specs.Run.{TookLine}
+use Rattle.letters.specs.Line.{lineAt, linesOf, wordsOf}
+use Rattle.letters.specs.Run.{TookLine}
 use Rattle.commands.specs.Texts.{word, unread}
 use Rattle.commands.specs.Parity.{remainderText, overlayText, correctText}
 use Rattle.commands.specs.Building.{buildText, allCallText}

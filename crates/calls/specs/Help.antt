@@ -1,7 +1,7 @@
 -- The line `help`.
 use Prim.Native.Nat.{ℕ}
 use mathlib.Core.List.{List}
-use Rattle.text.specs.Plain.{plain}
+use Rattle.letters.specs.Plain.{plain}
 
 -- the words of the console with what follows each, one line each
 abbrev pub helpText : List ℕ

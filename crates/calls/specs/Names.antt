@@ -4,8 +4,8 @@ use Prim.Native.String.{String}
 use mathlib.Core.List.{List, [], _∷_}
 use lib.ListN.{getD}
 use Rattle.lists.specs.Lists.{pick}
-use Rattle.text.specs.Line.{sameAs}
-use Rattle.text.specs.Plain.{plain}
+use Rattle.letters.specs.Line.{sameAs}
+use Rattle.letters.specs.Plain.{plain}
 use Rattle.calls.specs.declared.names.Command.{Command}
 use Rattle.calls.specs.declared.names.Command.the-variants.{Remainder, Overlay, Correct, Build, AllCall, Up, Down, Code, Feet, Model, Queue, Send, State, Help, Unknown}
 

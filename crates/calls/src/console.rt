@@ -1,6 +1,6 @@
 // The lines of the console: the call that a line's first word names, and the lines of an input one after the other.
 ghost use mathlib.Core.Path.{_≡_};
-ghost use Rattle.text.specs.Line.{wordsOf};
+ghost use Rattle.letters.specs.Line.{wordsOf};
 ghost use Rattle.commands.specs.Texts.{word};
 ghost use Rattle.aircraft.specs.Lines.{Showed};
 ghost use Rattle.calls.specs.Console.{Answered, callSaid, commandSaid, comment, lineSaid};

@@ -1,5 +1,5 @@
 // The line `help`.
-ghost use Rattle.text.specs.Put.{Put};
+ghost use Rattle.letters.specs.Put.{Put};
 ghost use Rattle.calls.specs.Help.{helpText};
 
 // The words of the console, one line each.

@@ -1,7 +1,7 @@
 // The calls of the console by their names, and how many words a line of each has.
 ghost use Prim.Native.Nat.{_<_};
 ghost use mathlib.Core.Path.{_≡_};
-ghost use Rattle.text.specs.Line.{sameAs};
+ghost use Rattle.letters.specs.Line.{sameAs};
 ghost use Rattle.calls.specs.Names.{commandOf, rowAt, rowCount, wordsFor};
 
 // A call of the console.

@@ -8,16 +8,16 @@ use mathlib.Core.Option.{Option, some, none}
 use lib.Dec.{eqb, ltb}
 use lib.ListN.{length, take, drop, replicate, length-append, length-take, length-replicate}
 use Rattle.lists.specs.Lists.{pick}
-use Rattle.text.specs.Put.{decimal}
-use Rattle.text.specs.Plain.{plain}
-use Rattle.text.specs.Line.{sameAs}
-use Rattle.text.specs.Number.{numberIn}
-use Rattle.text.specs.Hex.{hexIn, hexOf, bytesIn}
-use Rattle.text.specs.declared.answer.Number.{Number}
-use Rattle.text.specs.declared.answer.Number.the-variants.{Is, Not}
-use Rattle.text.proofs.Decimal.{decimal-length}
-use Rattle.text.proofs.HexMade.{hex-length, hex-of-length}
-use Rattle.text.proofs.HexRead.{bytes-fit}
+use Rattle.letters.specs.Put.{decimal}
+use Rattle.letters.specs.Plain.{plain}
+use Rattle.letters.specs.Line.{sameAs}
+use Rattle.letters.specs.Number.{numberIn}
+use Rattle.letters.specs.Hex.{hexIn, hexOf, bytesIn}
+use Rattle.letters.specs.declared.answer.Number.{Number}
+use Rattle.letters.specs.declared.answer.Number.the-variants.{Is, Not}
+use Rattle.letters.proofs.Decimal.{decimal-length}
+use Rattle.letters.proofs.HexMade.{hex-length, hex-of-length}
+use Rattle.letters.proofs.HexRead.{bytes-fit}
 use Rattle.altitude.specs.Code.{altitude}
 use Rattle.feet_lines.specs.Lines as feet-lines
 use Rattle.feet_lines.proofs.Run.{answer-short}

@@ -6,12 +6,12 @@ use mathlib.Core.List.{List}
 use mathlib.Core.Option.{some, none}
 use lib.Seq.{take-at}
 use lib.ListN.{length, take, drop, replicate, length-take, length-replicate, replicate-append-replicate}
-use Rattle.text.specs.Line.{wordsOf, within, NthWord}
-use Rattle.text.specs.Hex.{bytesIn, HexRead}
-use Rattle.text.proofs.HexRead.{hex-found, hex-not, hex-same}
-use Rattle.text.specs.declared.answer.Span.{Span}
-use Rattle.text.specs.declared.answer.Hex.{Hex}
-use Rattle.text.specs.declared.answer.Hex.the-variants.{Bytes, Not}
+use Rattle.letters.specs.Line.{wordsOf, within, NthWord}
+use Rattle.letters.specs.Hex.{bytesIn, HexRead}
+use Rattle.letters.proofs.HexRead.{hex-found, hex-not, hex-same}
+use Rattle.letters.specs.declared.answer.Span.{Span}
+use Rattle.letters.specs.declared.answer.Hex.{Hex}
+use Rattle.letters.specs.declared.answer.Hex.the-variants.{Bytes, Not}
 use Rattle.commands.specs.Texts.{word}
 
 -- ---- read

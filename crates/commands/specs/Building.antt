@@ -2,8 +2,8 @@
 use Prim.Native.Nat.{ℕ}
 use mathlib.Core.List.{List}
 use lib.ListN.{replicate}
-use Rattle.text.specs.Number.{numberIn}
-use Rattle.text.specs.Hex.{hexOf, bytesIn}
+use Rattle.letters.specs.Number.{numberIn}
+use Rattle.letters.specs.Hex.{hexOf, bytesIn}
 use Rattle.fields.specs.Answers.{Outcome}
 use Rattle.fields.specs.Formats.{lengthOf}
 use Rattle.fields.specs.Building.{building, allCalling}

@@ -4,11 +4,11 @@ use mathlib.Core.List.{List, [], _∷_, _++_}
 use lib.Dec.{eqb}
 use lib.ListN.{length, getD, take}
 use Rattle.lists.specs.Lists.{pick}
-use Rattle.text.specs.Put.{decimal}
-use Rattle.text.specs.Plain.{plain}
-use Rattle.text.specs.Hex.{hexIn, hexOf, bytesIn}
-use Rattle.text.specs.Line.{sameAs}
-use Rattle.text.specs.Number.{numberIn}
+use Rattle.letters.specs.Put.{decimal}
+use Rattle.letters.specs.Plain.{plain}
+use Rattle.letters.specs.Hex.{hexIn, hexOf, bytesIn}
+use Rattle.letters.specs.Line.{sameAs}
+use Rattle.letters.specs.Number.{numberIn}
 use Rattle.fields.specs.Answers.{Answer, own, matchingII}
 use Rattle.fields.specs.Formats.{longFormat}
 use Rattle.fields.specs.Reading.{readUp, readDown, mbPart}

@@ -2,10 +2,10 @@
 use Prim.Native.Nat.{ℕ}
 use mathlib.Core.List.{List, _++_}
 use lib.ListN.{length, replicate}
-use Rattle.text.specs.Put.{decimal}
-use Rattle.text.specs.Plain.{plain}
-use Rattle.text.specs.Number.{numberIn}
-use Rattle.text.specs.Hex.{hexIn, hexOf, bytesIn}
+use Rattle.letters.specs.Put.{decimal}
+use Rattle.letters.specs.Plain.{plain}
+use Rattle.letters.specs.Number.{numberIn}
+use Rattle.letters.specs.Hex.{hexIn, hexOf, bytesIn}
 use Rattle.remainders.specs.Answers.{Answer, Outcome}
 use Rattle.remainders.specs.Division.{remainderAnswer}
 use Rattle.remainders.specs.Overlays.{uplinkOverlay}

@@ -5,10 +5,10 @@ use mathlib.Core.Option.{Option, some, none}
 use lib.Dec.{eqb}
 use lib.ListN.{getD}
 use Rattle.lists.specs.Lists.{pick}
-use Rattle.text.specs.Put.{decimal}
-use Rattle.text.specs.Plain.{plain}
-use Rattle.text.specs.declared.answer.Number.{Number}
-use Rattle.text.specs.declared.answer.Number.the-variants.{Is, Not}
+use Rattle.letters.specs.Put.{decimal}
+use Rattle.letters.specs.Plain.{plain}
+use Rattle.letters.specs.declared.answer.Number.{Number}
+use Rattle.letters.specs.declared.answer.Number.the-variants.{Is, Not}
 
 -- ---- read
 

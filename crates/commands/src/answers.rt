@@ -1,6 +1,6 @@
 // The text of an answer, laid at the front of a lent buffer.
-ghost use Rattle.text.specs.Put.{Put};
-ghost use Rattle.text.specs.Hex.{hexIn};
+ghost use Rattle.letters.specs.Put.{Put};
+ghost use Rattle.letters.specs.Hex.{hexIn};
 ghost use Rattle.remainders.specs.Answers.{answered};
 ghost use Rattle.commands.specs.Texts.{unread, doneText, refusalText};
 ghost use Rattle.commands.specs.Parity.{reckonedText};

@@ -1,6 +1,6 @@
 // The lines `build UF PC RR DI SD MA ADDRESS` and `allcall PR IC CL`.
-ghost use Rattle.text.specs.Put.{Put};
-ghost use Rattle.text.specs.Line.{wordsOf};
+ghost use Rattle.letters.specs.Put.{Put};
+ghost use Rattle.letters.specs.Line.{wordsOf};
 ghost use Rattle.fields.specs.Answers.{said};
 ghost use Rattle.commands.specs.Building.{builtText, selectiveText, buildText, allCallText};
 use crate::answers::put_refusal;
@@ -9,8 +9,8 @@ use crate::values::is_long;
 use crate::words::bytes_at;
 use crate::words::number_at;
 use frames::Built;
-use text::Hex;
-use text::Number;
+use letters::Hex;
+use letters::Number;
 
 // The frame that was built, or the refusal.
 fn put_built(out: &mut [u8], b: Built, frame: &[u8]) -> usize

@@ -1,6 +1,6 @@
 // The line `code HEX CL IC PERMIT`.
-ghost use Rattle.text.specs.Put.{Put};
-ghost use Rattle.text.specs.Line.{wordsOf};
+ghost use Rattle.letters.specs.Put.{Put};
+ghost use Rattle.letters.specs.Line.{wordsOf};
 ghost use Rattle.fields.specs.Answers.{codeSaid};
 ghost use Rattle.commands.specs.Frames.{whoseText, codeText};
 use crate::answers::put_refusal;
@@ -8,8 +8,8 @@ use crate::answers::put_unread;
 use crate::words::bytes_at;
 use crate::words::number_at;
 use frames::Code;
-use text::Hex;
-use text::Number;
+use letters::Hex;
+use letters::Number;
 
 // Whose code it is, or the refusal.
 fn put_whose(out: &mut [u8], a: Code) -> usize

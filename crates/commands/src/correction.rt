@@ -1,17 +1,17 @@
 // The line `correct HEX MARKS OVERLAY LIMIT`.
 ghost use mathlib.Core.Path.{_≡_};
 ghost use lib.ListN.{length, replicate};
-ghost use Rattle.text.specs.Put.{Put};
-ghost use Rattle.text.specs.Line.{wordsOf};
+ghost use Rattle.letters.specs.Put.{Put};
+ghost use Rattle.letters.specs.Line.{wordsOf};
 ghost use Rattle.remainders.specs.Answers.{said};
 ghost use Rattle.commands.specs.Parity.{correctedText, fixedText, correctText};
 use crate::answers::put_refusal;
 use crate::answers::put_unread;
 use crate::words::bytes_at;
 use crate::words::number_at;
+use letters::Hex;
+use letters::Number;
 use parity::Fix;
-use text::Hex;
-use text::Number;
 
 // The corrected message and its flips, or the refusal.
 fn put_corrected(out: &mut [u8], f: Fix, fixed: &[u8]) -> usize

@@ -1,10 +1,10 @@
 // The line `feet AC`.
-ghost use Rattle.text.specs.Put.{Put};
-ghost use Rattle.text.specs.Line.{wordsOf};
+ghost use Rattle.letters.specs.Put.{Put};
+ghost use Rattle.letters.specs.Line.{wordsOf};
 ghost use Rattle.commands.specs.Feet.{feetText};
 use crate::answers::put_unread;
 use crate::words::number_at;
-use text::Number;
+use letters::Number;
 
 // The altitude that a code says.
 pub fn put_feet(line: &[u8], out: &mut [u8]) -> usize

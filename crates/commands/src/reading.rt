@@ -1,7 +1,7 @@
 // The lines `up HEX` and `down HEX`.
 ghost use mathlib.Core.List.{_∷_, []};
-ghost use Rattle.text.specs.Put.{Put};
-ghost use Rattle.text.specs.Line.{wordsOf};
+ghost use Rattle.letters.specs.Put.{Put};
+ghost use Rattle.letters.specs.Line.{wordsOf};
 ghost use Rattle.commands.specs.Texts.{doneText};
 ghost use Rattle.commands.specs.Frames.{fieldsText, interrogationText, replyText, upText, downText};
 use crate::answers::put_refusal;
@@ -11,7 +11,7 @@ use crate::values::put_seven;
 use crate::words::bytes_at;
 use frames::Down;
 use frames::Up;
-use text::Hex;
+use letters::Hex;
 
 // The values of DF 11.
 fn put_all_call_reply(out: &mut [u8], ca: u32, address: u32, remainder: u32) -> usize

@@ -1,13 +1,13 @@
 // The lines `remainder HEX` and `overlay NUMBER`.
-ghost use Rattle.text.specs.Put.{Put};
-ghost use Rattle.text.specs.Line.{wordsOf};
+ghost use Rattle.letters.specs.Put.{Put};
+ghost use Rattle.letters.specs.Line.{wordsOf};
 ghost use Rattle.commands.specs.Parity.{remainderText, overlayText};
 use crate::answers::put_reckoned;
 use crate::answers::put_unread;
 use crate::words::bytes_at;
 use crate::words::number_at;
-use text::Hex;
-use text::Number;
+use letters::Hex;
+use letters::Number;
 
 // The remainder of a message.
 pub fn put_remainder(line: &[u8], out: &mut [u8]) -> usize

@@ -1,7 +1,7 @@
 // The values of a frame that was read, laid behind a 0.
 ghost use mathlib.Core.Path.{_≡_};
 ghost use mathlib.Core.List.{_∷_, []};
-ghost use Rattle.text.specs.Put.{Put};
+ghost use Rattle.letters.specs.Put.{Put};
 ghost use Rattle.fields.specs.Formats.{longFormat};
 ghost use Rattle.commands.specs.Texts.{doneText};
 ghost use Rattle.commands.specs.Frames.{numberText, endText, valuesText};

@@ -1,11 +1,11 @@
 // The words of a line where a number or bytes belong.
 ghost use mathlib.Core.Path.{_≡_};
-ghost use Rattle.text.specs.Line.{wordsOf};
-ghost use Rattle.text.specs.Number.{numberIn};
-ghost use Rattle.text.specs.Hex.{HexRead};
+ghost use Rattle.letters.specs.Line.{wordsOf};
+ghost use Rattle.letters.specs.Number.{numberIn};
+ghost use Rattle.letters.specs.Hex.{HexRead};
 ghost use Rattle.commands.specs.Texts.{word};
-use text::Hex;
-use text::Number;
+use letters::Hex;
+use letters::Number;
 
 // The k-th word as a number of at most ten digits.
 pub fn number_at(line: &[u8], k: usize) -> Number

@@ -9,16 +9,16 @@ use lib.ListN.{length, take, length-append}
 use borrow.Author.Tests.{ltb-true}
 use Rattle.lists.specs.Lists.{pick}
 use Rattle.lists.proofs.Tests.{and-right}
-use Rattle.text.specs.Put.{decimal}
-use Rattle.text.specs.Line.{lineAt, wordsOf}
-use Rattle.text.specs.Run.{linesText, TookLine}
-use Rattle.text.specs.Number.{allDigits, valueAfter, numberIn}
-use Rattle.text.proofs.Decimal.{decimal-length, decimal-fits}
-use Rattle.text.proofs.Lines.{visited}
-use Rattle.text.proofs.Run as run
-use Rattle.text.proofs.Signs.{signed-fits}
-use Rattle.text.specs.declared.answer.Lined.{Lined}
-use Rattle.text.specs.declared.answer.Number.the-variants.{Is, Not}
+use Rattle.letters.specs.Put.{decimal}
+use Rattle.letters.specs.Line.{lineAt, wordsOf}
+use Rattle.letters.specs.Run.{linesText, TookLine}
+use Rattle.letters.specs.Number.{allDigits, valueAfter, numberIn}
+use Rattle.letters.proofs.Decimal.{decimal-length, decimal-fits}
+use Rattle.letters.proofs.Lines.{visited}
+use Rattle.letters.proofs.Run as run
+use Rattle.letters.proofs.Signs.{signed-fits}
+use Rattle.letters.specs.declared.answer.Lined.{Lined}
+use Rattle.letters.specs.declared.answer.Number.the-variants.{Is, Not}
 use Rattle.altitude.specs.declared.code.Altitude.{Altitude}
 use Rattle.altitude.specs.declared.code.Altitude.the-variants.{Feet, None, Metric, Range, Illegal}
 use Rattle.altitude.specs.Code.{Form, eleven, fiveHundreds, group, hundreds, feetBy25, feetBy100, formOf, readAs, altitude, numberOf}

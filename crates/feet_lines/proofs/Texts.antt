@@ -4,13 +4,13 @@ use mathlib.Core.Path.{_≡_}
 use mathlib.Core.List.{List, [], _∷_}
 use lib.IntN.{ℤ}
 use lib.ListN.{take, drop}
-use Rattle.text.specs.Put.{decimal, Put}
-use Rattle.text.specs.Signed.{signedDecimal}
-use Rattle.text.specs.Line.{wordsOf, wordAt, within}
-use Rattle.text.specs.Number.{numberIn}
-use Rattle.text.proofs.Laid.{put-then}
-use Rattle.text.proofs.Words.{words-next, words-end}
-use Rattle.text.specs.declared.answer.Span.{Span}
+use Rattle.letters.specs.Put.{decimal, Put}
+use Rattle.letters.specs.Signed.{signedDecimal}
+use Rattle.letters.specs.Line.{wordsOf, wordAt, within}
+use Rattle.letters.specs.Number.{numberIn}
+use Rattle.letters.proofs.Laid.{put-then}
+use Rattle.letters.proofs.Words.{words-next, words-end}
+use Rattle.letters.specs.declared.answer.Span.{Span}
 use Rattle.altitude.specs.declared.code.Altitude.{Altitude}
 use Rattle.altitude.specs.declared.code.Altitude.the-variants.{Feet}
 use Rattle.altitude.specs.Code.{altitude, numberOf}

@@ -1,14 +1,14 @@
 -- The lines of the program feet: for each line of its input, what it prints.
 use Prim.Native.Nat.{ℕ}
 use mathlib.Core.List.{List, [], _∷_, _++_}
-use Rattle.text.specs.Put.{decimal}
-use Rattle.text.specs.Plain.{plain}
-use Rattle.text.specs.Signed.{signedDecimal}
-use Rattle.text.specs.Line.{linesOf, wordsOf}
-use Rattle.text.specs.Run.{linesText}
-use Rattle.text.specs.Number.{numberIn}
-use Rattle.text.specs.declared.answer.Number.{Number}
-use Rattle.text.specs.declared.answer.Number.the-variants.{Is, Not}
+use Rattle.letters.specs.Put.{decimal}
+use Rattle.letters.specs.Plain.{plain}
+use Rattle.letters.specs.Signed.{signedDecimal}
+use Rattle.letters.specs.Line.{linesOf, wordsOf}
+use Rattle.letters.specs.Run.{linesText}
+use Rattle.letters.specs.Number.{numberIn}
+use Rattle.letters.specs.declared.answer.Number.{Number}
+use Rattle.letters.specs.declared.answer.Number.the-variants.{Is, Not}
 use Rattle.altitude.specs.declared.code.Altitude.{Altitude}
 use Rattle.altitude.specs.declared.code.Altitude.the-variants.{Feet, None, Metric, Range, Illegal}
 use Rattle.altitude.specs.Code.{altitude, numberOf}

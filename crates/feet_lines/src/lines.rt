@@ -1,13 +1,13 @@
 // The lines of the program feet, as their very bytes.
-ghost use Rattle.text.specs.Put.{Put};
-ghost use Rattle.text.specs.Run.{TookLine};
+ghost use Rattle.letters.specs.Put.{Put};
+ghost use Rattle.letters.specs.Run.{TookLine};
 ghost use Rattle.altitude.specs.Code.{altitude};
 ghost use Rattle.feet_lines.specs.Lines.{valueText, answerText, codeText, lineText};
 use altitude::Altitude;
 use altitude::number;
 use altitude::read;
-use text::Lined;
-use text::Number;
+use letters::Lined;
+use letters::Number;
 
 // What stands behind the answer's number, and the line's end.
 fn put_value(out: &mut [u8], at: usize, a: Altitude) -> usize

@@ -5,7 +5,7 @@ use mathlib.Core.Path.{_≡_}
 use mathlib.Core.List.{List, [], _∷_, _++_}
 use lib.ListN.{length, getD, take, drop}
 use Rattle.lists.proofs.Front.{front-drop, front-end}
-use Rattle.text.specs.Put.{decimal}
+use Rattle.letters.specs.Put.{decimal}
 use Rattle.plans.specs.declared.entry.Entry.{Entry}
 use Rattle.plans.specs.Exchange.{exchangeOf}
 use Rattle.planner.specs.declared.exchange.Exchange.{Exchange}

@@ -5,7 +5,7 @@ use mathlib.Core.Path.{_≡_, ap, _∙_}
 use mathlib.Core.Bool.{true}
 use mathlib.Core.List.{List}
 use lib.ListN.{length, take, length-take}
-use Rattle.text.proofs.Laid.{length-laid, take-laid}
+use Rattle.letters.proofs.Laid.{length-laid, take-laid}
 use Rattle.transcripts.specs.declared.run.Run.{Run}
 use Rattle.transcripts.specs.Run.{outcomeNow, advanced}
 use Rattle.transcripts.proofs.Runs.{left, falls}

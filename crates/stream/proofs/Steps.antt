@@ -6,7 +6,7 @@ use mathlib.Core.Bool.{true, false}
 use mathlib.Core.List.{List, [], _++_, append-nil}
 use lib.ListN.{length}
 use borrow.Author.Tests.{eq-eqb, ne-eqb}
-use Rattle.text.proofs.Laid.{put-none}
+use Rattle.letters.proofs.Laid.{put-none}
 use Rattle.records.specs.declared.fields.Reply.{Reply}
 use Rattle.records.specs.declared.reading.Found.{Found}
 use Rattle.records.specs.declared.reading.Found.the-variants.{End, Unknown, Cut, Whole}

@@ -3,7 +3,7 @@ use Prim.Native.Nat.{ℕ, _+_, _≤_}
 use mathlib.Core.List.{List}
 use mathlib.Core.Path.{_≡_}
 use lib.ListN.{length}
-use Rattle.text.specs.Put.{laid, Put}
+use Rattle.letters.specs.Put.{laid, Put}
 use Rattle.records.specs.Records.{recordAt}
 use Rattle.histories.specs.declared.state.Station.{Station}
 use Rattle.transcripts.specs.declared.run.Run.{Run}

@@ -3,7 +3,7 @@ ghost use Prim.Native.Nat.{_≤_, min};
 ghost use mathlib.Core.Path.{_≡_};
 ghost use mathlib.Core.List.{_∷_, []};
 ghost use lib.ListN.{take};
-ghost use Rattle.text.specs.Put.{decimal};
+ghost use Rattle.letters.specs.Put.{decimal};
 ghost use Rattle.transcripts.specs.Lines.{line, entryLine, entryLines};
 ghost use Rattle.stream.specs.Calls.{Within};
 use crate::words::NEWLINE;

@@ -1,5 +1,5 @@
 // A word of a line and the byte behind it: a space, or the newline that ends the line.
-ghost use Rattle.text.specs.Put.{decimal};
+ghost use Rattle.letters.specs.Put.{decimal};
 ghost use Rattle.transcripts.specs.Lines.{followed};
 ghost use Rattle.stream.specs.Calls.{Within};
 

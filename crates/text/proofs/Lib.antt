@@ -1,13 +1,6 @@
--- The laws of the crate: for its own proofs and for its callers.
-pub mod Laid
-pub mod Decimal
-pub mod Runs
-pub mod Lines
-pub mod Words
-pub mod Values
-pub mod HexMade
-pub mod HexRead
-mod Examples
-pub mod Signs
-pub mod Nth
-pub mod Run
+-- What the proofs of the calls need beside the laws of crate letters: the kit's digits, 32-bit signs, and what loops keep true.
+mod Kit
+mod Sizes
+mod HexLoops
+mod Values
+mod Nth

@@ -1,9 +1,9 @@
 // The words of a line by their number.
 ghost use mathlib.Core.Path.{_≡_};
 ghost use lib.ListN.{length};
-ghost use Rattle.text.specs.Line.{wordsOf, NthWord};
-use crate::answer::Span;
+ghost use Rattle.letters.specs.Line.{wordsOf, NthWord};
 use crate::line::word;
+use letters::Span;
 
 // The k-th word of a line, from 0; an empty span where there is none.
 pub fn nth_word(line: &[u8], k: usize) -> Span

@@ -1,5 +1,4 @@
-// Lines of text: words, numbers and bytes read from a line, and decimal and hex laid into a lent buffer.
-mod answer;
+// Lines of text: words, numbers and bytes read from a line, and decimal and hex laid into a lent buffer. The definitions stand in crate letters.
 mod count;
 mod hex;
 mod line;
@@ -7,15 +6,15 @@ mod numbers;
 mod put;
 mod signed;
 
-pub use answer::Hex;
-pub use answer::Lined;
-pub use answer::Number;
-pub use answer::Span;
 pub use count::nth_word;
 pub use count::word_count;
 pub use hex::hex_bytes;
 pub use hex::put_hex;
 pub use hex::put_hex6;
+pub use letters::Hex;
+pub use letters::Lined;
+pub use letters::Number;
+pub use letters::Span;
 pub use line::line_after;
 pub use line::line_at;
 pub use line::line_end;

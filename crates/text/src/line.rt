@@ -1,9 +1,7 @@
 // Lines of an input and words of a line, by their places.
-ghost use Prim.Native.Nat.{_+_, min};
 ghost use mathlib.Core.Path.{_≡_};
-ghost use lib.ListN.{length};
-ghost use Rattle.text.specs.Line.{blank, inWord, runEnd, LineTo, LineHeld, NextWord, sameAs};
-use crate::answer::Span;
+ghost use Rattle.letters.specs.Line.{blank, inWord, runEnd, lineAfter, LineTo, LineHeld, NextWord, sameAs};
+use letters::Span;
 
 // The place of the first newline at or after at, or the input's length.
 pub fn line_end(s: &[u8], at: usize) -> usize
@@ -32,7 +30,7 @@ pub fn line_at(s: &[u8], at: usize) -> Span
 
 // The place behind the newline at a line's end.
 pub fn line_after(s: &[u8], end: usize) -> usize
-    ensures { λ r. ⌜ r ≡ min (length (now (s .entry))) (end + 1) ⌝ }
+    ensures { λ r. ⌜ r ≡ lineAfter (now (s .entry)) end ⌝ }
 {
     if end < s.len() {
         return end + 1;

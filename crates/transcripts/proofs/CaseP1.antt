@@ -3,8 +3,8 @@ use Prim.Native.Nat.{ℕ}
 use mathlib.Core.Path.{_≡_, refl}
 use mathlib.Core.List.{List, [], _∷_, _++_}
 use Rattle.lists.specs.Lists.{every, countOf, indexOf, filter, over, total}
-use Rattle.text.specs.Put.{decimalIn, decimal}
-use Rattle.text.specs.Plain.{plain}
+use Rattle.letters.specs.Put.{decimalIn, decimal}
+use Rattle.letters.specs.Plain.{plain}
 use Rattle.plans.specs.Exchange.{sentFor, replyFor, apart, clear}
 use Rattle.plans.specs.Fits.{clearOf, fits, first, place}
 use Rattle.plans.specs.Shares.{sharesFit, judged}

@@ -2,9 +2,9 @@
 use mathlib.Core.Path.{_≡_, refl}
 use mathlib.Core.List.{[], _∷_}
 use lib.IntN.{negsuc}
-use Rattle.text.specs.Put.{decimalIn, decimal}
-use Rattle.text.specs.Signed.{signedDecimal}
-use Rattle.text.specs.Plain.{plain}
+use Rattle.letters.specs.Put.{decimalIn, decimal}
+use Rattle.letters.specs.Signed.{signedDecimal}
+use Rattle.letters.specs.Plain.{plain}
 use Rattle.plans.specs.declared.request.Ask.{Ask}
 use Rattle.plans.specs.Exchange.{sentFor, replyFor, entryAt}
 use Rattle.records.specs.Records.{bodyLength, recordAt}

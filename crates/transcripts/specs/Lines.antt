@@ -2,8 +2,8 @@
 use Prim.Native.Nat.{ℕ, suc}
 use mathlib.Core.List.{List, [], _∷_, _++_}
 use lib.IntN.{ℤ}
-use Rattle.text.specs.Put.{decimal}
-use Rattle.text.specs.Signed.{signedDecimal}
+use Rattle.letters.specs.Put.{decimal}
+use Rattle.letters.specs.Signed.{signedDecimal}
 use Rattle.plans.specs.declared.entry.Entry.{Entry}
 use Rattle.plans.specs.Exchange.{listens}
 use Rattle.histories.specs.declared.state.Value.{Value}

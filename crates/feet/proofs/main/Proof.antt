@@ -2,8 +2,8 @@
 use Prim.Native.Nat.{_-_}
 use mathlib.Core.Path.{_≡_, refl}
 use lib.ListN.{length}
-use Rattle.text.proofs.Laid.{put-count}
-use Rattle.text.proofs.Run.{goes-on}
+use Rattle.letters.proofs.Laid.{put-count}
+use Rattle.letters.proofs.Run.{goes-on}
 use borrow.Author.Needs.{needs}
 use Rattle.feet.proofs.main.Statement.{statement}
 use Rattle.feet.proofs.main.Tie as tie

@@ -1,6 +1,6 @@
 -- `put_queue` reads one word of bytes, and queues them.
 use mathlib.Core.Path.{refl, sym, ap}
-use Rattle.text.specs.Line.{wordsOf}
+use Rattle.letters.specs.Line.{wordsOf}
 use Rattle.commands.specs.Texts.{word, ofBytes}
 use Rattle.commands.proofs.Texts.{Held, held, no-bytes}
 use Rattle.aircraft.specs.Lines.{queuedSaid, queueSaid}

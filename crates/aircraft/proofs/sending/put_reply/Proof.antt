@@ -2,7 +2,7 @@
 use mathlib.Core.Path.{_≡_, sym}
 use native.Mathlib.Omega.{arith}
 use lib.ListN.{length, length-take}
-use Rattle.text.proofs.Laid.{put-of}
+use Rattle.letters.proofs.Laid.{put-of}
 use Rattle.aircraft.proofs.Texts.{reply-none, reply-some, reply-all}
 use borrow.Author.Needs.{needs}
 use Rattle.aircraft.proofs.sending.put_reply.Statement.{statement}

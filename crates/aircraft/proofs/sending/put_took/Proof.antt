@@ -3,7 +3,7 @@ use mathlib.Core.Path.{_≡_, refl}
 use native.Mathlib.Omega.{arith}
 use lib.ListN.{length, take, length-take}
 use borrow.Author.Tests.{eq-eqb, ne-eqb}
-use Rattle.text.proofs.Laid.{put-then}
+use Rattle.letters.proofs.Laid.{put-then}
 use Rattle.commands.specs.Texts.{doneText, answerText}
 use Rattle.aircraft.specs.Lines.{tookSaid}
 use Rattle.aircraft.proofs.Short.{reply-fits}

@@ -1,6 +1,6 @@
 -- `put_holder` goes by who holds; an II has eight bits.
 use native.Mathlib.Omega.{arith}
-use Rattle.text.proofs.Decimal.{decimal-length}
+use Rattle.letters.proofs.Decimal.{decimal-length}
 use Rattle.aircraft.specs.Lines.{holderText}
 use borrow.Author.Needs.{needs}
 use Rattle.aircraft.proofs.showing.put_holder.Statement.{statement}

@@ -2,7 +2,7 @@
 use mathlib.Core.Path.{sym, _∙_}
 use native.Mathlib.Omega.{arith}
 use borrow.Author.Tests.{not-true, not-false}
-use Rattle.text.proofs.Laid.{put-of, put-none, put-then}
+use Rattle.letters.proofs.Laid.{put-of, put-none, put-then}
 use Rattle.aircraft.proofs.Texts.{lock-free, lock-ii, lock-si}
 use borrow.Author.Needs.{needs}
 use Rattle.aircraft.proofs.showing.put_lock.Statement.{statement}

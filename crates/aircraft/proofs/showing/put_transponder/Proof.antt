@@ -4,8 +4,8 @@ use native.Mathlib.Omega.{arith}
 use Prim.Native.Nat.{_<_}
 use lib.ListN.{length}
 use Rattle.lists.proofs.Front.{length-mapped}
-use Rattle.text.specs.Put.{decimal}
-use Rattle.text.proofs.Laid.{put-of, put-then}
+use Rattle.letters.specs.Put.{decimal}
+use Rattle.letters.proofs.Laid.{put-of, put-then}
 use Rattle.commands.specs.Texts.{doneText}
 use Rattle.aircraft.specs.Lines.{stateText}
 use Rattle.aircraft.proofs.Short.{state-fits}

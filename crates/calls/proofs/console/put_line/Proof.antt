@@ -1,7 +1,7 @@
 -- `put_line` answers a line that has words, the first of which begins no comment.
 use mathlib.Core.Path.{sym, _∙_}
 use native.Mathlib.Omega.{arith}
-use Rattle.text.proofs.Laid.{put-none}
+use Rattle.letters.proofs.Laid.{put-none}
 use Rattle.commands.proofs.Texts.{word-of}
 use Rattle.aircraft.proofs.Texts.{showed-of}
 use Rattle.calls.proofs.Lines.{stays, no-words, silent, answered}

@@ -1,6 +1,6 @@
 -- `is_name` compares the word with the k-th of the names.
 use mathlib.Core.Path.{ap, _∙_}
-use Rattle.text.specs.Line.{sameAs}
+use Rattle.letters.specs.Line.{sameAs}
 use Rattle.commands.proofs.Texts.{word-of}
 use Rattle.commands.specs.Texts.{word}
 use Rattle.calls.proofs.Table.{names-are}

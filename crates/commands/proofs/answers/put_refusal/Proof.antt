@@ -1,5 +1,5 @@
 -- `put_refusal` lays the number and the line's end.
-use Rattle.text.proofs.Laid.{put-then}
+use Rattle.letters.proofs.Laid.{put-then}
 use Rattle.commands.specs.Texts.{refusalText}
 use borrow.Author.Needs.{needs}
 use Rattle.commands.proofs.answers.put_refusal.Statement.{statement}

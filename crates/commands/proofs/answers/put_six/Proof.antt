@@ -1,5 +1,5 @@
 -- `put_six` lays 0, six digits and the line's end.
-use Rattle.text.proofs.Laid.{put-then}
+use Rattle.letters.proofs.Laid.{put-then}
 use Rattle.commands.specs.Texts.{doneText}
 use borrow.Author.Needs.{needs}
 use Rattle.commands.proofs.answers.put_six.Statement.{statement}

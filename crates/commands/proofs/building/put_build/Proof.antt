@@ -2,9 +2,9 @@
 use mathlib.Core.Path.{_≡_, refl, sym, _∙_}
 use Prim.Native.Nat.{ℕ}
 use mathlib.Core.List.{List}
-use Rattle.text.specs.Line.{wordsOf}
-use Rattle.text.specs.Number.{numberIn}
-use Rattle.text.specs.declared.answer.Number.the-variants.{Is}
+use Rattle.letters.specs.Line.{wordsOf}
+use Rattle.letters.specs.Number.{numberIn}
+use Rattle.letters.specs.declared.answer.Number.the-variants.{Is}
 use Rattle.commands.specs.Texts.{word, ofBytes, ofNumber}
 use Rattle.commands.specs.Building.{buildText}
 use Rattle.commands.proofs.Texts.{Held, held, no-bytes}

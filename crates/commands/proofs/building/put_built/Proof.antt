@@ -1,5 +1,5 @@
 -- `put_built` lays the frame, or the refusal, one case of the answer after the other.
-use Rattle.text.proofs.Laid.{put-then}
+use Rattle.letters.proofs.Laid.{put-then}
 use Rattle.commands.specs.Texts.{doneText, answerText}
 use Rattle.commands.specs.Building.{builtText}
 use borrow.Author.Needs.{needs}

@@ -1,5 +1,5 @@
 -- `put_whose` lays the word or the refusal, one case of the answer after the other.
-use Rattle.text.specs.Line.{sameAs}
+use Rattle.letters.specs.Line.{sameAs}
 use Rattle.commands.specs.Texts.{answerText, doneText}
 use Rattle.commands.specs.Frames.{codeWord, whoseText}
 use borrow.Author.Needs.{needs}

@@ -1,5 +1,5 @@
 -- `put_corrected` lays the message and its flips, or the refusal, one case of the answer after the other.
-use Rattle.text.proofs.Laid.{put-then}
+use Rattle.letters.proofs.Laid.{put-then}
 use Rattle.commands.specs.Texts.{doneText, answerText}
 use Rattle.commands.specs.Parity.{correctedText}
 use borrow.Author.Needs.{needs}

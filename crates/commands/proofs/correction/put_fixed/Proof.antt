@@ -1,6 +1,6 @@
 -- `put_fixed` lays what the correction answers and leaves in its buffer.
 use mathlib.Core.Path.{ap, _∙_}
-use Rattle.text.proofs.Laid.{put-of}
+use Rattle.letters.proofs.Laid.{put-of}
 use Rattle.remainders.specs.Correction.{correction}
 use Rattle.commands.specs.Parity.{correctedText, fixedText}
 use borrow.Author.Needs.{needs}

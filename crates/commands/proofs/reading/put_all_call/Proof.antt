@@ -1,6 +1,6 @@
 -- `put_all_call` lays 0, 11, three numbers and the remainder.
-use Rattle.text.proofs.Laid.{put-then}
-use Rattle.text.specs.Put.{decimal, decimalIn}
+use Rattle.letters.proofs.Laid.{put-then}
+use Rattle.letters.specs.Put.{decimal, decimalIn}
 use Rattle.commands.specs.Texts.{doneText}
 use Rattle.commands.specs.Frames.{numberText, fieldsText}
 use borrow.Author.Needs.{needs}

@@ -1,6 +1,6 @@
 -- `put_down` reads one word of bytes, and lays what they are as a reply.
 use mathlib.Core.Path.{refl}
-use Rattle.text.specs.Line.{wordsOf}
+use Rattle.letters.specs.Line.{wordsOf}
 use Rattle.commands.specs.Texts.{word, ofBytes}
 use Rattle.commands.specs.Frames.{downText}
 use Rattle.commands.proofs.Texts.{Held, held, no-bytes}

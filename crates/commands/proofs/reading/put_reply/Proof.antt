@@ -1,6 +1,6 @@
 -- `put_reply` lays the values or the refusal, one case of the answer after the other.
 use mathlib.Core.Path.{refl}
-use Rattle.text.proofs.Laid.{put-of}
+use Rattle.letters.proofs.Laid.{put-of}
 use Rattle.commands.specs.Texts.{answerText}
 use Rattle.commands.specs.Frames.{numbersText, valuesText, readText}
 use Rattle.commands.proofs.Frames.{as-reply}

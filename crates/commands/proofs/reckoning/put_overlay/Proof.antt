@@ -1,6 +1,6 @@
 -- `put_overlay` reads one number, and lays the answer for it.
 use mathlib.Core.Path.{ap}
-use Rattle.text.proofs.Laid.{put-of}
+use Rattle.letters.proofs.Laid.{put-of}
 use Rattle.commands.specs.Texts.{ofNumber}
 use Rattle.commands.specs.Parity.{overlayText, reckonedText}
 use borrow.Author.Needs.{needs}

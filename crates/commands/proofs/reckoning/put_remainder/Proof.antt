@@ -1,7 +1,7 @@
 -- `put_remainder` reads one word of bytes, and lays their remainder.
 use mathlib.Core.Path.{refl, ap}
-use Rattle.text.specs.Line.{wordsOf}
-use Rattle.text.proofs.Laid.{put-of}
+use Rattle.letters.specs.Line.{wordsOf}
+use Rattle.letters.proofs.Laid.{put-of}
 use Rattle.commands.specs.Texts.{word, ofBytes}
 use Rattle.commands.specs.Parity.{remainderText, reckonedText}
 use Rattle.commands.proofs.Texts.{Held, held, no-bytes}

@@ -1,7 +1,7 @@
 -- `put_end` lays the bytes and the remainder of a long format, and the remainder alone of a short one.
 use mathlib.Core.Path.{sym, _∙_}
 use borrow.Author.Tests.{not-true, not-false}
-use Rattle.text.proofs.Laid.{put-then}
+use Rattle.letters.proofs.Laid.{put-then}
 use Rattle.commands.specs.Frames.{endText}
 use borrow.Author.Needs.{needs}
 use Rattle.commands.proofs.values.put_end.Statement.{statement}

@@ -1,5 +1,5 @@
 -- `put_number` lays the number and a space.
-use Rattle.text.proofs.Laid.{put-then}
+use Rattle.letters.proofs.Laid.{put-then}
 use Rattle.commands.specs.Frames.{numberText}
 use borrow.Author.Needs.{needs}
 use Rattle.commands.proofs.values.put_number.Statement.{statement}

@@ -1,5 +1,5 @@
 -- `put_seven` lays 0, five numbers and what ends the line.
-use Rattle.text.proofs.Laid.{put-then}
+use Rattle.letters.proofs.Laid.{put-then}
 use Rattle.commands.specs.Texts.{doneText}
 use Rattle.commands.specs.Frames.{numbersText, valuesText}
 use borrow.Author.Needs.{needs}

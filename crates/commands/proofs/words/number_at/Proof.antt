@@ -1,6 +1,6 @@
 -- `number_at` reads the word with that number.
 use mathlib.Core.Path.{ap, _∙_}
-use Rattle.text.specs.Number.{numberIn}
+use Rattle.letters.specs.Number.{numberIn}
 use Rattle.commands.proofs.Texts.{word-of}
 use borrow.Author.Needs.{needs}
 use Rattle.commands.proofs.words.number_at.Statement.{statement}

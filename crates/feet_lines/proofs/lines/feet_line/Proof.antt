@@ -1,5 +1,5 @@
 -- `feet_line` takes the line at a place and goes on behind its newline.
-use Rattle.text.proofs.Run.{took}
+use Rattle.letters.proofs.Run.{took}
 use Rattle.feet_lines.specs.Lines.{lineText}
 use borrow.Author.Needs.{needs}
 use Rattle.feet_lines.proofs.lines.feet_line.Statement.{statement}

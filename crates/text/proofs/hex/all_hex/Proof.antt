@@ -3,8 +3,8 @@ use Prim.Native.Nat.{_-_}
 use mathlib.Core.Path.{_≡_, sym, _∙_}
 use native.Mathlib.Omega.{arith}
 use lib.ListN.{length, drop}
-use Rattle.text.specs.Hex.{allHex}
-use Rattle.text.proofs.HexRead.{hex-passed, hex-stopped, hex-all}
+use Rattle.letters.specs.Hex.{allHex}
+use Rattle.text.proofs.HexLoops.{hex-passed, hex-stopped, hex-all}
 use borrow.Author.Needs.{needs}
 use Rattle.text.proofs.hex.all_hex.Statement.{statement}
 use Rattle.text.proofs.hex.all_hex.Tie as tie

@@ -4,9 +4,9 @@ use native.Mathlib.Omega.{arith}
 use mathlib.Core.Path.{_≡_, refl, sym, _∙_}
 use mathlib.Core.Bool.{true}
 use lib.ListN.{drop}
-use Rattle.text.specs.Put.{laid}
-use Rattle.text.specs.Hex.{pairs, allHex}
-use Rattle.text.proofs.HexRead.{pair-passed, pair-next, pair-end}
+use Rattle.letters.specs.Put.{laid}
+use Rattle.letters.specs.Hex.{pairs, allHex}
+use Rattle.text.proofs.HexLoops.{pair-passed, pair-next, pair-end}
 use borrow.Author.Needs.{needs}
 use Rattle.text.proofs.hex.fill.Statement.{statement}
 use Rattle.text.proofs.hex.fill.Tie as tie

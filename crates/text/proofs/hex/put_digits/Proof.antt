@@ -1,6 +1,6 @@
 -- The digits that the kit makes, put in upper case.
-use Rattle.text.proofs.Laid.{put-of}
-use Rattle.text.proofs.HexMade.{as-the-kit}
+use Rattle.letters.proofs.Laid.{put-of}
+use Rattle.text.proofs.Kit.{hex-of-kit}
 use borrow.Author.Needs.{needs}
 use Rattle.text.proofs.hex.put_digits.Statement.{statement}
 use Rattle.text.proofs.hex.put_digits.Tie as tie
@@ -23,7 +23,7 @@ same-length c = search needs
 returns : tie.Need-returns
 returns c =
     let made = c .before .before .before .before .before .hex .ensures in
-    put-of (as-the-kit _ _ _ _ (c .before .before .before .before .before .before .before .before .pre) (made .1 .0) (made .1 .1)) (c .before .before .put-upper .ensures)
+    put-of (hex-of-kit _ _ _ _ (c .before .before .before .before .before .before .before .before .pre) (made .1 .0) (made .1 .1)) (c .before .before .put-upper .ensures)
 
 pub put-digits-spec : {M : Type 1} → statement M
 put-digits-spec =

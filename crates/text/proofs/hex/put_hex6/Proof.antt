@@ -1,6 +1,6 @@
 -- The six low digits: those above them change none.
-use Rattle.text.proofs.Laid.{put-of}
-use Rattle.text.proofs.HexMade.{hex-low}
+use Rattle.letters.proofs.Laid.{put-of}
+use Rattle.letters.proofs.HexMade.{hex-low}
 use borrow.Author.Needs.{needs}
 use Rattle.text.proofs.hex.put_hex6.Statement.{statement}
 use Rattle.text.proofs.hex.put_hex6.Tie as tie

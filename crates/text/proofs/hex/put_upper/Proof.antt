@@ -3,9 +3,9 @@ use Prim.Native.Nat.{_-_, _≤_}
 use native.Mathlib.Omega.{arith}
 use mathlib.Core.List.{map}
 use lib.ListN.{length, drop}
-use Rattle.text.specs.Hex.{upperOf}
-use Rattle.text.proofs.Laid.{Still, still-first, still-next, still-end, put-out, put-inside}
-use Rattle.text.proofs.HexMade.{upper-next, upper-end}
+use Rattle.letters.specs.Hex.{upperOf}
+use Rattle.letters.proofs.Laid.{Still, still-first, still-next, still-end, put-out, put-inside}
+use Rattle.text.proofs.HexLoops.{upper-next, upper-end}
 use borrow.Author.Needs.{needs}
 use Rattle.text.proofs.hex.put_upper.Statement.{statement}
 use Rattle.text.proofs.hex.put_upper.Tie as tie

@@ -1,7 +1,7 @@
 -- The digits that the kit makes, put as bytes.
 use mathlib.Core.Path.{_∙_}
-use Rattle.text.proofs.Laid.{put-of}
-use Rattle.text.proofs.Decimal.{as-the-kit}
+use Rattle.letters.proofs.Laid.{put-of}
+use Rattle.text.proofs.Kit.{decimal-of-kit}
 use borrow.Author.Needs.{needs}
 use Rattle.text.proofs.put.put_decimal.Statement.{statement}
 use Rattle.text.proofs.put.put_decimal.Tie as tie
@@ -24,7 +24,7 @@ same-length c = search needs
 returns : tie.Need-returns
 returns c =
     let made = c .before .before .before .before .before .decimal .ensures in
-    put-of (made .1 .1 ∙ as-the-kit _ _ (made .1 .0)) (c .before .before .put-bytes .ensures)
+    put-of (made .1 .1 ∙ decimal-of-kit _ _ (made .1 .0)) (c .before .before .put-bytes .ensures)
 
 pub put-decimal-spec : {M : Type 1} → statement M
 put-decimal-spec =

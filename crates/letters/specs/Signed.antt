@@ -2,7 +2,7 @@
 use Prim.Native.Nat.{ℕ, _+_}
 use mathlib.Core.List.{List, _∷_}
 use lib.IntN.{ℤ, pos, negsuc}
-use Rattle.text.specs.Put.{decimal}
+use Rattle.letters.specs.Put.{decimal}
 
 -- the digits, after a minus sign where the number is below zero
 unfoldable pub signedDecimal : ℤ → List ℕ

@@ -7,7 +7,7 @@ use mathlib.Core.List.{List, [], _∷_}
 use mathlib.Core.Bool.{Bool, true, false}
 use lib.Seq.{drop-cons, getD-drop}
 use lib.ListN.{length, getD, drop, length-drop}
-use Rattle.text.specs.Line.{front, runEnd}
+use Rattle.letters.specs.Line.{front, runEnd}
 
 module _ (p : ℕ → Bool) where
   pub front-more : (b : ℕ) (t : List ℕ) → p b ≡ true → front p (b ∷ t) ≡ suc (front p t)

@@ -1,16 +1,16 @@
 -- A run that answers line after line: its texts are those of the input's lines, whole, and it ends.
-use Prim.Native.Nat.{ℕ, _+_, _-_, _≤_, _<_, min}
+use Prim.Native.Nat.{ℕ, _+_, _-_, _≤_, _<_}
 use native.Mathlib.Omega.{arith}
 use mathlib.Core.Path.{_≡_, ap, _∙_}
 use mathlib.Core.List.{List}
 use lib.ListN.{length, take, drop}
-use Rattle.text.specs.Line.{lineAt, linesOf, within, LineHeld}
-use Rattle.text.specs.Put.{Put}
-use Rattle.text.specs.Run.{linesText, TookLine}
-use Rattle.text.specs.declared.answer.Lined.{Lined}
-use Rattle.text.specs.declared.answer.Span.{Span}
-use Rattle.text.proofs.Laid.{read-off, put-of}
-use Rattle.text.proofs.Lines.{line-end-after, visited, all-lines}
+use Rattle.letters.specs.Line.{lineAt, lineAfter, linesOf, within, LineHeld}
+use Rattle.letters.specs.Put.{Put}
+use Rattle.letters.specs.Run.{linesText, TookLine}
+use Rattle.letters.specs.declared.answer.Lined.{Lined}
+use Rattle.letters.specs.declared.answer.Span.{Span}
+use Rattle.letters.proofs.Laid.{read-off, put-of}
+use Rattle.letters.proofs.Lines.{line-end-after, visited, all-lines}
 
 module _ (text : List ℕ → List ℕ) where
   -- the lines that a run visits, from the first place on, are the input's
@@ -28,7 +28,7 @@ module _ (text : List ℕ → List ℕ) where
 
 -- the line's span found, its text put, and the place behind it: the line was taken
 pub took : (text : List ℕ → List ℕ) {s : List ℕ} {at : ℕ} {before after : List ℕ} {w : Span} {n size : ℕ}
-    → LineHeld s at w → n ≡ min (length s) (w .to + 1) → Put (text (take (w .to - w .from) (drop (w .from) s))) 0 before after size
+    → LineHeld s at w → n ≡ lineAfter s (w .to) → Put (text (take (w .to - w .from) (drop (w .from) s))) 0 before after size
     → TookLine text s at before after (record { next = n; size = size })
 unfolding within
 took text h e p = record { next = e ∙ rw (h .end); text-put = put-of (ap text (h .text)) p }

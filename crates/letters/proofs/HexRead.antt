@@ -1,68 +1,19 @@
--- Laws of bytes read from hex: digit by digit, and what a caller knows of the answer.
-use Prim.Native.Nat.{ℕ, _+_, _-_, _*_, _/_, _%_, _≤_, _<_}
-use native.Mathlib.Numerals.{add-one}
+-- Laws of bytes read from hex: which words say bytes, and what a caller knows of the answer.
+use Prim.Native.Nat.{ℕ, _/_, _%_, _≤_, _<_}
 use native.Mathlib.Omega.{arith}
 use mathlib.Core.Path.{_≡_, refl, sym, ap, _∙_}
 use mathlib.Core.Bool.{Bool, true, false, false≢true}
 use mathlib.Core.List.{List, [], _∷_}
 use mathlib.Core.Option.{Option, some, none}
-use lib.Seq.{drop-cons}
-use lib.ListN.{length, getD, set, take, drop, drop-of-length-le}
+use lib.ListN.{length, take}
 use lib.Dec.{ltb}
 use borrow.Author.Tests.{lt-ltb, le-ltb, le-leb, lt-leb, eq-eqb, ne-eqb, ltb-true, ltb-false}
-use Rattle.text.specs.Put.{laid}
-use Rattle.text.specs.Line.{sameAs}
-use Rattle.text.specs.Hex.{hexValue, allHex, pairs, isHex, bytesIn, hexAnswer, filled, HexRead}
-use Rattle.text.specs.declared.answer.Hex.{Hex}
-use Rattle.text.specs.declared.answer.Hex.the-variants.{Bytes, Not}
-use Rattle.text.proofs.Laid.{take-laid, length-laid}
-
--- ---- digit by digit
-
-module _ (w : List ℕ) (i : ℕ) where
-  next : i < length w → drop i w ≡ getD w i 0 ∷ drop (i + 1) w
-  next h = rw (drop-cons w i 0 h, add-one i)
-
-  pub hex-passed : i < length w → hexValue (getD w i 0) < 16 → allHex (drop i w) ≡ allHex (drop (i + 1) w)
-  unfolding allHex
-  hex-passed h v = rw (next h, lt-ltb (hexValue (getD w i 0)) 16 v)
-
-  pub hex-stopped : i < length w → 16 ≤ hexValue (getD w i 0) → allHex (drop i w) ≡ false
-  unfolding allHex
-  hex-stopped h v = rw (next h, le-ltb (hexValue (getD w i 0)) 16 v)
-
-  pub hex-all : length w ≤ i → allHex (drop i w) ≡ true
-  unfolding allHex
-  hex-all h = rw (drop-of-length-le w h)
-
-  value-by : (v : Bool) → ltb (hexValue (getD w i 0)) 16 ≡ v → i < length w → allHex (drop i w) ≡ true → hexValue (getD w i 0) < 16
-  value-by true e h a = ltb-true _ _ e
-  value-by false e h a = absurd (false≢true (sym (hex-stopped h (ltb-false _ _ e)) ∙ a))
-
-  pub value-small : i < length w → allHex (drop i w) ≡ true → hexValue (getD w i 0) < 16
-  value-small h a = value-by (ltb (hexValue (getD w i 0)) 16) refl h a
-
--- two digits more
-pub pair-passed : (w : List ℕ) (i : ℕ) → 2 * i + 1 < length w → allHex (drop (2 * i) w) ≡ true
-    → (hexValue (getD w (2 * i) 0) < 16) × (hexValue (getD w (2 * i + 1) 0) < 16) × (allHex (drop (2 * (i + 1)) w) ≡ true)
-pair-passed w i h a =
-    let e : 2 * (i + 1) ≡ 2 * i + 1 + 1 = omega arith in
-    let x = value-small w (2 * i) (omega arith) a in
-    let b = sym (hex-passed w (2 * i) (omega arith) x) ∙ a in
-    let y = value-small w (2 * i + 1) h b in
-    (x, y, rw e (sym (hex-passed w (2 * i + 1) h y) ∙ b))
-
--- a byte more is laid: that of the digits at 2i and 2i + 1
-pub pair-next : (w : List ℕ) (i : ℕ) (l : List ℕ) → 2 * i + 1 < length w
-    → laid (pairs (drop (2 * (i + 1)) w)) (i + 1) (set l i (hexValue (getD w (2 * i) 0) * 16 + hexValue (getD w (2 * i + 1) 0))) ≡ laid (pairs (drop (2 * i) w)) i l
-unfolding laid pairs
-pair-next w i l h =
-    let e : 2 * (i + 1) ≡ 2 * i + 1 + 1 = omega arith in
-    rw (e, next w (2 * i) (omega arith), next w (2 * i + 1) h, add-one i)
-
-pub pair-end : (w : List ℕ) (i : ℕ) (l : List ℕ) → length w ≤ 2 * i → laid (pairs (drop (2 * i) w)) i l ≡ l
-unfolding laid pairs
-pair-end w i l h = rw (drop-of-length-le w h)
+use Rattle.letters.specs.Put.{laid}
+use Rattle.letters.specs.Line.{sameAs}
+use Rattle.letters.specs.Hex.{allHex, pairs, isHex, bytesIn, hexAnswer, filled, HexRead}
+use Rattle.letters.specs.declared.answer.Hex.{Hex}
+use Rattle.letters.specs.declared.answer.Hex.the-variants.{Bytes, Not}
+use Rattle.letters.proofs.Laid.{take-laid, length-laid}
 
 length-pairs : (w : List ℕ) → length (pairs w) ≡ length w / 2
 unfolding pairs

@@ -1,6 +1,6 @@
--- Laws of decimal numbers: their last digit, how many there are, and that they are those of the kit's `io::decimal`.
-use Prim.Native.Nat.{ℕ, zero, suc, _+_, _-_, _*_, _/_, _%_, _^_, _≤_, _<_}
-use native.Mathlib.Nat.{pow-suc, one-le-pow}
+-- Laws of decimal numbers: their last digit, and how many there are.
+use Prim.Native.Nat.{ℕ, zero, suc, _+_, _*_, _/_, _%_, _^_, _≤_, _<_}
+use native.Mathlib.Nat.{pow-suc}
 use native.Mathlib.Omega.{arith}
 use mathlib.Core.Path.{_≡_, refl}
 use mathlib.Core.Bool.{Bool, true, false}
@@ -8,8 +8,7 @@ use mathlib.Core.List.{[], _∷_, _++_}
 use lib.ListN.{length, length-append}
 use lib.Dec.{ltb}
 use borrow.Author.Tests.{lt-ltb, le-ltb, ltb-true, ltb-false}
-use Rattle.io.specs.Digits.{glyph, digits, Fewest}
-use Rattle.text.specs.Put.{decimalIn, decimal}
+use Rattle.letters.specs.Put.{decimalIn, decimal}
 
 enough : (j k n : ℕ) → n ≤ j → n ≤ k → decimalIn j n ≡ decimalIn k n
 unfolding decimalIn
@@ -45,20 +44,3 @@ decimal-length (suc k) n h = by-test k n (ltb n 10) refl h (decimal-length k)
 -- a number of 32 bits has at most ten
 pub decimal-fits : (n : ℕ) → n < 4294967296 → length (decimal n) ≤ 10
 decimal-fits n h = decimal-length 9 n (omega arith)
-
--- ---- as the kit makes them
-
-digit : (n : ℕ) → glyph (n % 10) ≡ 48 + n % 10
-digit n = rw (lt-ltb (n % 10) 10 (omega arith))
-
-pub as-the-kit : (k n : ℕ) → Fewest 10 1 n k → digits 10 k n ≡ decimal n
-as-the-kit zero n (a, b, c) = absurd (omega arith)
-as-the-kit (suc zero) n (a, b, c) = rw (decimal-small n (omega arith), digit n)
-as-the-kit (suc (suc k)) n (a, b, c) =
-    let p : 10 ^ suc (suc k) ≡ 10 ^ suc k * 10 = pow-suc 10 (suc k) in
-    let q : 10 ^ suc k ≡ 10 ^ k * 10 = pow-suc 10 k in
-    let o : 1 ≤ 10 ^ k = one-le-pow k 10 (omega arith) in
-    let e : suc (suc k) - 1 ≡ suc k = omega arith in
-    let f : suc k - 1 ≡ k = omega arith in
-    let least : 10 ^ suc k ≤ n = rw e at (c (omega arith)) in
-    rw (decimal-more n (omega arith), digit n, as-the-kit (suc k) (n / 10) (omega arith, omega arith, λ h. rw f (omega arith)))

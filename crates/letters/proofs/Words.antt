@@ -8,10 +8,10 @@ use lib.Seq.{getD-take, getD-drop, drop-drop, drop-length}
 use lib.ListN.{length, getD, take, drop, length-drop, length-take, drop-of-length-le}
 use lib.Dec.{ltb, eqb}
 use borrow.Author.Tests.{ltb-true, ltb-false, eq-eqb, eqb-true}
-use Rattle.text.specs.Line.{blank, inWord, parts, full, wordsOf, front, runEnd, wordAt, within, NextWord, sameAs}
-use Rattle.text.specs.declared.answer.Span.{Span}
-use Rattle.text.proofs.Runs.{front-more, front-stop, run-is, run-fits, run-none, run-more, run-at-end}
-use Rattle.text.proofs.Lines.{part-ends, part-first}
+use Rattle.letters.specs.Line.{blank, inWord, parts, full, wordsOf, front, runEnd, wordAt, within, NextWord, sameAs}
+use Rattle.letters.specs.declared.answer.Span.{Span}
+use Rattle.letters.proofs.Runs.{front-more, front-stop, run-is, run-fits, run-none, run-more, run-at-end}
+use Rattle.letters.proofs.Lines.{part-ends, part-first}
 
 pub in-word : (b : ℕ) → inWord b ≡ not (blank b)
 unfolding inWord

@@ -7,11 +7,11 @@ use mathlib.Core.Option.{Option, some, none}
 use lib.Dec.{leb, ltb, eqb}
 use lib.ListN.{length}
 use Rattle.lists.specs.Lists.{pick}
-use Rattle.text.specs.declared.answer.Hex.{Hex}
-use Rattle.text.specs.declared.answer.Hex.the-variants.{Bytes, Not}
-use Rattle.text.specs.Put.{laid}
-use Rattle.text.specs.Line.{sameAs}
-use Rattle.text.specs.Number.{between, isDigit}
+use Rattle.letters.specs.declared.answer.Hex.{Hex}
+use Rattle.letters.specs.declared.answer.Hex.the-variants.{Bytes, Not}
+use Rattle.letters.specs.Put.{laid}
+use Rattle.letters.specs.Line.{sameAs}
+use Rattle.letters.specs.Number.{between, isDigit}
 
 -- ---- made
 

@@ -2,12 +2,12 @@
 use mathlib.Core.Path.{_≡_, refl}
 use mathlib.Core.List.{[], _∷_}
 use mathlib.Core.Option.{some, none}
-use Rattle.text.specs.Put.{decimalIn, decimal, laid}
-use Rattle.text.specs.Line.{blank, newline, grown, parts, full, linesOf, wordsOf, sameAs}
-use Rattle.text.specs.Number.{between, isDigit, allDigits, valueAfter, numberIn}
-use Rattle.text.specs.Hex.{hexDigit, hexIn, hexOf, hexValue, allHex, pairs, isHex, bytesIn}
-use Rattle.text.specs.Plain.{plain}
-use Rattle.text.specs.declared.answer.Number.the-variants.{Is, Not}
+use Rattle.letters.specs.Put.{decimalIn, decimal, laid}
+use Rattle.letters.specs.Line.{blank, newline, grown, parts, full, linesOf, wordsOf, sameAs}
+use Rattle.letters.specs.Number.{between, isDigit, allDigits, valueAfter, numberIn}
+use Rattle.letters.specs.Hex.{hexDigit, hexIn, hexOf, hexValue, allHex, pairs, isHex, bytesIn}
+use Rattle.letters.specs.Plain.{plain}
+use Rattle.letters.specs.declared.answer.Number.the-variants.{Is, Not}
 
 -- ---- made
 

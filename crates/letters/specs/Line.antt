@@ -6,7 +6,7 @@ use mathlib.Core.Bool.{Bool, true, false, not, _||_, _&&_}
 use lib.Dec.{eqb}
 use lib.ListN.{length, getD, take, drop}
 use Rattle.lists.specs.Lists.{pick}
-use Rattle.text.specs.declared.answer.Span.{Span}
+use Rattle.letters.specs.declared.answer.Span.{Span}
 
 -- a space, a tab or a carriage return
 unfoldable pub blank : ℕ → Bool
@@ -68,6 +68,10 @@ runEnd p s at = min (length s) (at + front p (drop at s))
 -- the place of the first newline at or after at, or the length
 unfoldable pub lineEnd : List ℕ → ℕ → ℕ
 lineEnd s at = runEnd inLine s at
+
+-- the place behind the newline at a line's end, or the length
+abbrev pub lineAfter : List ℕ → ℕ → ℕ
+lineAfter s end = min (length s) (end + 1)
 
 -- the line that begins at at
 unfoldable pub lineAt : List ℕ → ℕ → List ℕ

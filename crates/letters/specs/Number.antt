@@ -5,8 +5,8 @@ use mathlib.Core.Bool.{Bool, true, _&&_}
 use lib.Dec.{leb, ltb}
 use lib.ListN.{length}
 use Rattle.lists.specs.Lists.{pick}
-use Rattle.text.specs.declared.answer.Number.{Number}
-use Rattle.text.specs.declared.answer.Number.the-variants.{Is, Not}
+use Rattle.letters.specs.declared.answer.Number.{Number}
+use Rattle.letters.specs.declared.answer.Number.the-variants.{Is, Not}
 
 unfoldable pub between : ℕ → ℕ → ℕ → Bool
 between low high b = leb low b && leb b high

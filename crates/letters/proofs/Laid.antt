@@ -7,7 +7,7 @@ use mathlib.Core.Path.{_≡_, refl, sym, ap, _∙_}
 use mathlib.Core.List.{List, [], _∷_, _++_}
 use lib.Seq.{sets, sets-eq, set-out, take-at, take-suc}
 use lib.ListN.{length, getD, set, take, drop, length-set, length-append, length-take}
-use Rattle.text.specs.Put.{laid, Put}
+use Rattle.letters.specs.Put.{laid, Put}
 
 pub length-laid : (t : List ℕ) (at : ℕ) (l : List ℕ) → length (laid t at l) ≡ length l
 unfolding laid

@@ -9,8 +9,8 @@ use lib.ListN.{length, getD, take, drop, length-drop, length-take, drop-of-lengt
 use lib.Dec.{ltb}
 use borrow.Author.Tests.{ltb-true, ltb-false, not-true, eq-eqb, ne-eqb}
 use Rattle.lists.specs.Lists.{pick}
-use Rattle.text.specs.Line.{newline, inLine, grown, parts, linesOf, front, runEnd, lineEnd, lineAt, within, LineTo, LineHeld}
-use Rattle.text.proofs.Runs.{front-more, front-stop, run-is, run-fits, run-inside}
+use Rattle.letters.specs.Line.{newline, inLine, grown, parts, linesOf, front, runEnd, lineEnd, lineAt, within, LineTo, LineHeld}
+use Rattle.letters.proofs.Runs.{front-more, front-stop, run-is, run-fits, run-inside}
 
 -- ---- the first part of a text, and the parts after it
 

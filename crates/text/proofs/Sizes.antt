@@ -2,17 +2,14 @@
 use Prim.Native.Nat.{ℕ, zero, suc, _+_, _-_, _^_, _<_, _≤_}
 use native.Mathlib.Omega.{arith}
 use mathlib.Core.Path.{_≡_, refl, ap, _∙_}
-use mathlib.Core.Bool.{Bool, true, false, true≢false}
-use lib.Dec.{T, ltb}
-use lib.IntN.{ℤ, pos, negsuc, subℕ, natAbs, _+ℤ_, _-ℤ_}
-use lib.ListN.{length}
+use mathlib.Core.Bool.{true, false, true≢false}
+use lib.Dec.{T}
+use lib.IntN.{ℤ, pos, negsuc, natAbs, _+ℤ_, _-ℤ_}
 use lib.Signed.{ltZ, nonNeg}
 use mir.Syntax.{w32}
 use mir.Val.{Fits, SFits, toZ, ofZ}
 use mir.ValLaws.{toZ-ofZ}
 use borrow.Author.Tests.{lt-ltb, ltb-true}
-use Rattle.text.specs.Signed.{signedDecimal}
-use Rattle.text.proofs.Decimal.{decimal-fits}
 
 -- one more than −1 − n
 plus-one : (n : ℕ) → negsuc (suc n) +ℤ pos 1 ≡ negsuc n
@@ -71,13 +68,3 @@ module _ (z : ℤ) (fits : SFits w32 z) where
 -- a signed number that is n becomes n
 pub unsigned : (y : ℤ) (n : ℕ) → y ≡ pos n → n < 2 ^ 31 → T (nonNeg y) × Fits w32 (natAbs y)
 unsigned y n e h = rw e (tt, record { fits = omega arith })
-
--- ---- how long a number with its sign is
-
-pub signed-fits : (a b : ℕ) → a < 2 ^ 31 → b < 2 ^ 31 → length (signedDecimal (subℕ a b)) ≤ 11
-unfolding signedDecimal
-signed-fits a b ha hb = go (ltb a b) refl
-  where
-    go : (t : Bool) → ltb a b ≡ t → length (signedDecimal (subℕ a b)) ≤ 11
-    go true e = rw e (omega (arith, decimal-fits (b - suc a + 1) (omega arith)))
-    go false e = rw e (omega (arith, decimal-fits (a - b) (omega arith)))
