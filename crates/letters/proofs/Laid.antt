@@ -1,5 +1,5 @@
 -- Laws of text laid into a buffer: texts put one after the other, and what stands in the buffer then.
-use Prim.Native.Nat.{ℕ, suc, _+_, _-_, _≤_, _<_, min}
+use Prim.Native.Nat.{ℕ, suc, _+_, _≤_, _<_, min}
 use native.Mathlib.Nat.{add-zero}
 use native.Mathlib.Numerals.{add-one}
 use native.Mathlib.Omega.{arith, min-cases}
@@ -12,12 +12,12 @@ use Rattle.letters.specs.Put.{laid, Put}
 pub length-laid : (t : List ℕ) (at : ℕ) (l : List ℕ) → length (laid t at l) ≡ length l
 unfolding laid
 length-laid [] at l = refl
-length-laid (b ∷ t) at l = length-laid t (suc at) (set l at b) ∙ length-set l at b
+length-laid (b ∷ t) at l = length-laid t _ _ ∙ length-set l _ b
 
 laid-append : (a b : List ℕ) (at : ℕ) (l : List ℕ) → laid (a ++ b) at l ≡ laid b (at + length a) (laid a at l)
 unfolding laid
 laid-append [] b at l = rw add-zero
-laid-append (x ∷ a) b at l = laid-append a b (suc at) (set l at x) ∙ ap (λ (k : ℕ). laid b k (laid a (suc at) (set l at x))) (omega arith)
+laid-append (x ∷ a) b at l = laid-append a b _ _ ∙ ap (λ (k : ℕ). laid b k (laid (x ∷ a) at l)) (omega arith)
 
 -- beyond the end nothing is laid
 pub laid-out : (t : List ℕ) (at : ℕ) (l : List ℕ) → length l ≤ at → laid t at l ≡ l
@@ -36,7 +36,7 @@ laid-clamped t at l =
 
 module _ {t : List ℕ} {at r : ℕ} {l m : List ℕ} (p : Put t at l m r) where
   pub put-same : length m ≡ length l
-  put-same = ap length (p .text) ∙ length-laid t at l
+  put-same = ap length (p .text) ∙ length-laid t _ l
 
   pub put-inside : r ≤ length m
   put-inside = omega (arith, p .next, put-same)

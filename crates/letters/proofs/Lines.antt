@@ -57,7 +57,7 @@ line-goes b h = rw (ne-eqb b 10 h)
 module _ (s : List ℕ) (at : ℕ) where
   pub line-end-fits : lineEnd s at ≤ length s
   unfolding lineEnd
-  line-end-fits = run-fits inLine s at
+  line-end-fits = run-fits inLine s _
 
   line-end-is : at ≤ length s → lineEnd s at ≡ at + front inLine (drop at s)
   unfolding lineEnd
