@@ -3,6 +3,8 @@
 use std::hint::black_box;
 use std::time::Instant;
 
+mod division;
+
 extern "C" {
     fn jerungkal_remainder(msg: *const u8, len: usize) -> u64;
     fn jerungkal_correct(
@@ -41,21 +43,7 @@ mod proved {
 
 // The same rules in Rust.
 mod plain {
-    const GENERATOR: u32 = 0x1FF_F409;
-
-    // Division bit by bit: the plain loop that the byte steps are measured against.
-    pub fn divide(msg: &[u8]) -> u32 {
-        let mut r = 0u32;
-        for &b in msg {
-            for k in (0..8).rev() {
-                r = r << 1 | (b >> k & 1) as u32;
-                if r & 0x100_0000 != 0 {
-                    r ^= GENERATOR;
-                }
-            }
-        }
-        r
-    }
+    use super::division::{divide, GENERATOR};
 
     // What a byte at x^24 to x^31 leaves: FFF409 for x^24, 1C1B moved up for each power above it.
     fn overflow(h: u32) -> u32 {
@@ -186,7 +174,7 @@ struct Case {
 
 fn case(source: &mut Bytes, n: usize, marked: usize) -> Case {
     let sent: Vec<u8> = (0..n).map(|_| source.next()).collect();
-    let overlay = plain::divide(&sent);
+    let overlay = division::divide(&sent);
     let (mut msg, mut marks) = (sent, vec![0u8; n]);
     let mut many = 0;
     while many < marked {
