@@ -12,7 +12,7 @@ use Rattle.fields.specs.declared.answers.Draws.{Draws}
 use Rattle.fields.specs.declared.answers.Draws.the-variants.{Format, Nothing}
 use Rattle.fields.specs.declared.answers.Interrogator.{Interrogator}
 use Rattle.fields.specs.declared.answers.Interrogator.the-variants.{II, SI, Nobody}
-use Rattle.fields.specs.Building.{building}
+use Rattle.fields.specs.Building.{selectiveRanged, building}
 use Rattle.fields.specs.Reading.{readAs, readDown, surveillanceRead, allCallReplyRead, mbPart}
 use Rattle.fields.specs.Shared.{codeFor, drawn}
 use Rattle.fields.specs.Codes.{whose, codeOf}
@@ -29,6 +29,10 @@ coded m cl ic permit = let a = codeOf m cl ic permit in a .number ∷ a .values
 abbrev sixth : List ℕ
 sixth = 0x5D ∷ 0x48 ∷ 0x4F ∷ 0xDE ∷ 0xA2 ∷ 0x48 ∷ 0xF5 ∷ []
 
+-- the same reply to II 6
+abbrev second : List ℕ
+second = 0x5D ∷ 0x48 ∷ 0x4F ∷ 0xDE ∷ 0xA2 ∷ 0x48 ∷ 0xE5 ∷ []
+
 abbrev squitter : List ℕ
 squitter = 0x5D ∷ 0x3C ∷ 0x66 ∷ 0x14 ∷ 0xC3 ∷ 0x15 ∷ 0xD2 ∷ []
 
@@ -44,10 +48,10 @@ draws (Format f) = f ∷ []
 draws Nothing = []
 
 -- a builder's number, and what its buffer of seven nines then holds
-abbrev built : ℕ → List ℕ
-built uf = let o = building uf 0 0 0 0 (replicate 7 0) 1 (replicate 7 9) in o .number ∷ o .output
+abbrev built : ℕ → ℕ → List ℕ
+built uf address = let o = building uf 0 0 0 0 (replicate 7 0) address (replicate 7 9) in o .number ∷ o .output
 
--- the published frames with every field given, codes of two of them, the MB bytes of one, the codes and what is drawn at the edges, and a refusal
+-- the published frames with every field given, codes of two of them, the MB bytes of one, the codes and what is drawn at the edges, and refusals
 abbrev pub listing : List Row
 listing =
     row (read sixth) (0 ∷ 11 ∷ 5 ∷ 0x484FDE ∷ 0x16 ∷ [])
@@ -62,6 +66,8 @@ listing =
     ∷ row (read (0x8D ∷ 0x40 ∷ 0x6B ∷ 0x90 ∷ 0x20 ∷ 0x15 ∷ 0xA6 ∷ 0x78 ∷ 0xD4 ∷ 0xD2 ∷ 0x20 ∷ 0xAA ∷ 0x4B ∷ 0xDA ∷ [])) (14 ∷ [])
     ∷ row (coded sixth 1 6 0) (0 ∷ 0 ∷ [])
     ∷ row (coded sixth 0 6 0) (0 ∷ 2 ∷ [])
+    ∷ row (coded second 1 6 0) (0 ∷ 2 ∷ [])
+    ∷ row (coded second 1 6 1) (0 ∷ 1 ∷ [])
     ∷ row (coded squitter 0 0 0) (0 ∷ 0 ∷ [])
     ∷ row (coded squitter 2 0 1) (0 ∷ 2 ∷ [])
     ∷ row (mbPart (0xA0 ∷ 0x00 ∷ 0x08 ∷ 0x3E ∷ 0x20 ∷ 0x2C ∷ 0xC3 ∷ 0x71 ∷ 0xC3 ∷ 0x1D ∷ 0xE0 ∷ 0xAA ∷ 0x1C ∷ 0xCF ∷ [])) (0x20 ∷ 0x2C ∷ 0xC3 ∷ 0x71 ∷ 0xC3 ∷ 0x1D ∷ 0xE0 ∷ [])
@@ -73,12 +79,15 @@ listing =
     ∷ row (code (codeFor 5 3)) []
     ∷ row (draws (drawn 4 15)) (4 ∷ [])
     ∷ row (draws (drawn 4 16)) (20 ∷ [])
+    ∷ row (draws (drawn 20 0)) (4 ∷ [])
     ∷ row (draws (drawn 21 31)) (21 ∷ [])
     ∷ row (draws (drawn 11 0)) []
-    ∷ row (built 6) (2 ∷ replicate 7 9)
+    ∷ row (built 6 1) (2 ∷ replicate 7 9)
+    ∷ row (built 4 0) (2 ∷ replicate 7 9)
+    ∷ row (built 4 0xFFFFFF) (2 ∷ replicate 7 9)
     ∷ []
 
 -- the one claim
 pub listing-agrees : Agrees listing
-unfolding bits shiftIn divide remainderOf headOf midOf readAs surveillanceRead allCallReplyRead whose codeOf codeFor drawn building
-listing-agrees = (refl, (refl, (refl, (refl, (refl, (refl, (refl, (refl, (refl, (refl, (refl, (refl, (refl, (refl, (refl, (refl, (refl, (refl, (refl, (refl, (refl, (refl, (refl, (refl, (refl, (refl, tt))))))))))))))))))))))))))
+unfolding bits shiftIn divide remainderOf headOf midOf readAs surveillanceRead allCallReplyRead whose codeOf codeFor drawn selectiveRanged building
+listing-agrees = (refl, (refl, (refl, (refl, (refl, (refl, (refl, (refl, (refl, (refl, (refl, (refl, (refl, (refl, (refl, (refl, (refl, (refl, (refl, (refl, (refl, (refl, (refl, (refl, (refl, (refl, (refl, (refl, (refl, (refl, (refl, tt)))))))))))))))))))))))))))))))
