@@ -9,3 +9,4 @@ pub mod Seen
 pub mod Kept
 pub mod Demands
 pub mod Examples
+pub mod Worked

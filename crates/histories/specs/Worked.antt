@@ -1,0 +1,81 @@
+-- Calls at the edges of the station, as one listing: what the definitions give beside what document 01 says, worked by hand.
+use Prim.Native.Nat.{ℕ}
+use mathlib.Core.Path.{refl}
+use mathlib.Core.List.{List, [], _∷_, _++_, map}
+use lib.ListN.{replicate}
+use Rattle.lists.specs.Listing.{Row, row, Agrees}
+use Rattle.lists.specs.Lists.{countOf, total, every, indexOf, filter, over}
+use Rattle.fields.specs.Building.{selectiveRanged}
+use Rattle.plans.specs.declared.request.Request.{Request}
+use Rattle.plans.specs.declared.entry.Entry.{Entry}
+use Rattle.plans.specs.Exchange.{sentFor, replyFor, apart, clear}
+use Rattle.plans.specs.Fits.{clearOf, fits, first, place}
+use Rattle.plans.specs.Shares.{sharesFit, judged}
+use Rattle.plans.specs.Plan as plans
+use Rattle.histories.specs.declared.state.Station.{Station}
+use Rattle.histories.specs.State.{emptied, blank, fresh, entriesOf, withTargets, withWaiting}
+use Rattle.histories.specs.Calls.{setUp, targetRanged, requestRanged, unitFull, newTarget, without, removed, moved, requested}
+use Rattle.histories.specs.Planning.{asked, boardFor, nextPlan}
+use Rattle.histories.specs.History.{Call, setup, new, remove, move, request, plan, answer, after}
+
+-- ---- the calls, the newest first in a history
+-- UF 4 of a unit for an address, other fields zero
+abbrev asking : ℕ → ℕ → Request
+asking unit address = record { unit = unit; address = address; uf = 4; pc = 0; rr = 0; di = 0; sd = 0; ma = 0 }
+
+-- L 20000, R 3000, limit 5, nothing guaranteed, at most 16 for every unit; then targets 1 and 2 at (1000, 1004)
+abbrev begun : List Call
+begun = setup (record { period = 20000; reach = 3000; limit = 5; guarantee = replicate 8 0; ceiling = replicate 8 16 }) ∷ []
+
+abbrev two : List Call
+two = new 2 1000 1004 ∷ new 1 1000 1004 ∷ begun
+
+-- unit 1 asks for address 1, then unit 0 for address 2
+abbrev waiting : List Call
+waiting = request (asking 0 2) ∷ request (asking 1 1) ∷ two
+
+-- ---- stations with every target's slot used, and with n requests of unit 0 waiting
+abbrev full : Station
+full = withTargets (record { list = replicate 64 (fresh 1 0 0); n = 64 }) (after begun)
+
+abbrev busy : ℕ → Station
+busy n = withWaiting (record { list = replicate 128 (asking 0 1); n = n }) (after two)
+
+-- ---- what is seen
+abbrev number : List Call → Call → ℕ
+number cs c = answer (after cs) c .number
+
+-- of each entry of the plan in force: its unit, its start, its near
+abbrev units : List Call → List ℕ
+units cs = map (λ (e : Entry). e .ask .request .unit) (entriesOf (after cs .plan))
+
+abbrev starts : List Call → List ℕ
+starts cs = map (λ (e : Entry). e .start) (entriesOf (after cs .plan))
+
+abbrev nears : List Call → List ℕ
+nears cs = map (λ (e : Entry). e .ask .near) (entriesOf (after cs .plan))
+
+-- ---- the rows
+abbrev pub listing : List Row
+listing =
+    -- "before a setup L, R, limit, guarantees and ceilings are 0", so far may be 0 and no more
+    row (blank .setup .period ∷ blank .setup .reach ∷ blank .setup .limit ∷ (blank .setup .guarantee ++ blank .setup .ceiling)) (replicate 19 0)
+    ∷ row (number [] (new 1 0 0) ∷ number [] (new 1 0 1) ∷ []) (0 ∷ 2 ∷ [])
+    -- "near ≤ far ≤ R"; an address already there is 5, a 65th target 6
+    ∷ row (number begun (new 1 5 4) ∷ number begun (new 1 3000 3000) ∷ number begun (new 1 3000 3001) ∷ number two (new 2 0 0) ∷ answer full (new 65 0 0) .number ∷ []) (2 ∷ 0 ∷ 2 ∷ 5 ∷ 6 ∷ [])
+    -- an address not in the list is 4, a 17th request of a unit 6, one of another unit is taken
+    ∷ row (number two (request (asking 0 3)) ∷ answer (busy 15) (request (asking 0 1)) .number ∷ answer (busy 16) (request (asking 0 1)) .number ∷ answer (busy 16) (request (asking 1 1)) .number ∷ []) (4 ∷ 0 ∷ 6 ∷ 0 ∷ [])
+    -- "all the rest by age": unit 1 asked first; the second exchange is clear when its window, [1530, 1792) after its start, is
+    ∷ row (units (plan 0 ∷ waiting)) (1 ∷ 0 ∷ [])
+    ∷ row (starts (plan 0 ∷ waiting)) (0 ∷ 262 ∷ [])
+    -- "a move changes near and far, not the present plan"
+    ∷ row (nears (move 1 500 504 ∷ plan 0 ∷ waiting)) (1000 ∷ 1000 ∷ [])
+    ∷ row (nears (plan 1 ∷ request (asking 0 1) ∷ move 1 500 504 ∷ plan 0 ∷ waiting)) (500 ∷ [])
+    -- "removal drops the target's requests", and its return does not bring them back
+    ∷ row (units (plan 0 ∷ new 1 1000 1004 ∷ remove 1 ∷ waiting)) (0 ∷ [])
+    ∷ []
+
+-- the one claim
+pub listing-agrees : Agrees listing
+unfolding countOf total every indexOf filter over selectiveRanged sentFor replyFor apart clear clearOf fits first place sharesFit judged plans.tried plans.pass plans.alone plans.turns plans.plan emptied setUp targetRanged requestRanged unitFull newTarget without removed moved requested asked boardFor nextPlan after
+listing-agrees = (refl, (refl, (refl, (refl, (refl, (refl, (refl, (refl, (refl, tt)))))))))
