@@ -1,12 +1,13 @@
 // The program cases: every file that its arguments name is a stream of its own; it prints each name and then the transcript.
 use libc::STDOUT_FILENO;
+use stream::ROOM;
 
 // The lines of one stream: the first 64 KiB of the file.
 fn show_stream(fd: i32) {
     let mut input = io::large_buffer();
     let got = io::read_full(fd, &mut input);
     let s = &input[..got];
-    let mut lines = stream::room();
+    let mut lines = [0u8; ROOM];
     let mut run = stream::begin();
     while run.more {
         run = stream::advance(s, run, &mut lines);

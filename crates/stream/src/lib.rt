@@ -15,4 +15,4 @@ pub use entries::put_entry;
 pub use report::put_report;
 pub use run::advance;
 pub use run::begin;
-pub use run::room;
+pub use run::ROOM;

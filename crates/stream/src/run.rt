@@ -1,10 +1,12 @@
 // The run of a stream, one record after the other.
 ghost use mathlib.Core.Path.{_≡_};
-ghost use lib.ListN.{length, replicate};
 ghost use Rattle.transcripts.specs.Run.{begun};
 ghost use Rattle.stream.specs.Calls.{Advanced};
 use crate::step::put_step;
 use transcripts::Run;
+
+// Room for the lines of any record.
+pub const ROOM: usize = 9300;
 
 // Before the first record.
 pub fn begin() -> Run
@@ -20,16 +22,8 @@ pub fn begin() -> Run
     }
 }
 
-// Room for the lines of any record: zeros.
-pub fn room() -> [u8; 9300]
-    ensures { λ r. ⌜ r ≡ replicate 9300 0 ⌝ }
-    ensures { λ r. ⌜ 9300 ≡ length r ⌝ }
-{
-    [0; 9300]
-}
-
 // One record more: its lines stand at the front of out.
-pub fn advance(s: &[u8], run: Run, out: &mut [u8; 9300]) -> Run
+pub fn advance(s: &[u8], run: Run, out: &mut [u8; ROOM]) -> Run
     ensures { λ r. ⌜ Advanced (now (s .entry)) run (now (out .entry)) (now (out .exit)) r ⌝ }
 {
     let at = run.at;

@@ -26,9 +26,6 @@ array-share-prefix-input c = search needs
 slice-aggregate-s : tie.Need-slice-aggregate-s Inv-loop μ-loop
 slice-aggregate-s c = search needs
 
-room-requires : tie.Need-room-requires Inv-loop μ-loop
-room-requires c κs = search needs
-
 begin-requires : tie.Need-begin-requires Inv-loop μ-loop
 begin-requires c κs = search needs
 
@@ -67,7 +64,6 @@ main-spec =
     read-full-requires
     array-share-prefix-input
     slice-aggregate-s
-    room-requires
     begin-requires
     loop-holds
     advance-requires
