@@ -13,6 +13,6 @@ pub use answers::put_reply_answer;
 pub use entries::put_entries;
 pub use entries::put_entry;
 pub use report::put_report;
+pub use run::ROOM;
 pub use run::advance;
 pub use run::begin;
-pub use run::ROOM;
