@@ -1,4 +1,4 @@
--- What holds of each element, with one element more and under an implication.
+-- What holds of each element: of one more, of two lists joined, under an implication.
 use mathlib.Core.List.{List, [], _∷_, _++_}
 use Rattle.lists.specs.Lists.{All}
 
@@ -18,6 +18,16 @@ module _ {A : Type 0} (P : A → Type 0) where
   pub all-cons : (x : A) (v : List A) → P x → All P v → All P (x ∷ v)
   unfolding All
   all-cons x v h a = (h, a)
+
+  pub all-append : (v w : List A) → All P v → All P w → All P (v ++ w)
+  unfolding All
+  all-append [] w a b = b
+  all-append (x ∷ v) w a b = (a .0, all-append v w (a .1) b)
+
+  pub all-of : ((x : A) → P x) → (v : List A) → All P v
+  unfolding All
+  all-of f [] = tt
+  all-of f (x ∷ v) = (f x, all-of f v)
 
   pub all-snoc : (v : List A) (x : A) → All P v → P x → All P (v ++ (x ∷ []))
   unfolding All

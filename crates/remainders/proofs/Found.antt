@@ -9,11 +9,12 @@ use native.Mathlib.Omega.{arith}
 use lib.Dec.{eqb}
 use lib.ListN.{length, drop, getD}
 use borrow.Author.Tests.{eq-eqb, eqb-true}
-use Rattle.lists.specs.Lists.{pick}
+use Rattle.lists.specs.Lists.{pick, filter, All}
+use Rattle.lists.proofs.Each.{all-image, all-kept}
+use Rattle.lists.proofs.Held.{all-append}
 use Rattle.remainders.specs.Messages.{AreBits}
-use Rattle.remainders.specs.Correction.{subsets, sumOf, keep, matching}
+use Rattle.remainders.specs.Correction.{subsets, sumOf, matching}
 use Rattle.remainders.specs.Corrected.{Within}
-use Rattle.remainders.proofs.Match.{All, all-append, all-map}
 
 -- ---- places within the marks
 pub within-are : (s ms : List ℕ) → AreBits ms → Within s ms → AreBits s
@@ -29,27 +30,23 @@ within-length (x ∷ s) (m ∷ ms) h = ap suc (within-length s ms (h .1))
 
 -- ---- every subset lies within the marks
 pub subsets-within : (ms : List ℕ) → All (λ s. Within s ms) (subsets ms)
-unfolding subsets
+unfolding All subsets
 subsets-within [] = (tt, tt)
-subsets-within (zero ∷ ms) = all-map (λ s. Within s ms) (λ s. Within s (0 ∷ ms)) (λ s. 0 ∷ s) (λ s h. (omega arith, h)) (subsets ms) (subsets-within ms)
+subsets-within (zero ∷ ms) = all-image (λ s. 0 ∷ s) (λ s. Within s ms) (λ s. Within s (0 ∷ ms)) (λ s h. (omega arith, h)) (subsets ms) (subsets-within ms)
 subsets-within (suc m ∷ ms) =
     all-append (λ s. Within s (suc m ∷ ms)) (map (λ s. 1 ∷ s) (subsets ms)) (map (λ s. 0 ∷ s) (subsets ms))
-    (all-map (λ s. Within s ms) (λ s. Within s (suc m ∷ ms)) (λ s. 1 ∷ s) (λ s h. (omega arith, h)) (subsets ms) (subsets-within ms))
-    (all-map (λ s. Within s ms) (λ s. Within s (suc m ∷ ms)) (λ s. 0 ∷ s) (λ s h. (omega arith, h)) (subsets ms) (subsets-within ms))
+    (all-image (λ s. 1 ∷ s) (λ s. Within s ms) (λ s. Within s (suc m ∷ ms)) (λ s h. (omega arith, h)) (subsets ms) (subsets-within ms))
+    (all-image (λ s. 0 ∷ s) (λ s. Within s ms) (λ s. Within s (suc m ∷ ms)) (λ s h. (omega arith, h)) (subsets ms) (subsets-within ms))
 
-kept-all : (P : List ℕ → Type 0) (p : List ℕ → Bool) (r : List (List ℕ)) → All P r → All (λ u. P u × (p u ≡ true)) (keep p r)
-kept-all P p [] h = tt
-kept-all P p (s ∷ r) h = go (p s) refl (kept-all P p r (h .1))
-  where
-    go : (b : Bool) → p s ≡ b → All (λ u. P u × (p u ≡ true)) (keep p r) → All (λ u. P u × (p u ≡ true)) (pick b (s ∷ keep p r) (keep p r))
-    go true e a = ((h .0, e), a)
-    go false e a = a
+-- the subsets kept lie within the marks and pass the test
+kept-within : (ms : List ℕ) (p : List ℕ → Bool) → All (λ u. Within u ms × (p u ≡ true)) (filter p (subsets ms))
+kept-within ms p = all-kept (λ u. Within u ms) (λ u. Within u ms × (p u ≡ true)) p (λ u e h. (h, e)) (subsets ms) (subsets-within ms)
 
 -- a match lies within the marks and has the XOR wanted
 pub match-is : (want : ℕ) (ms s : List ℕ) (r : List (List ℕ)) → matching want ms ≡ s ∷ r → Within s ms × (sumOf s ≡ want)
-unfolding matching
+unfolding All matching
 match-is want ms s r e =
-    let a = rw e at (kept-all (λ u. Within u ms) (λ u. eqb (sumOf u) want) (subsets ms) (subsets-within ms)) in
+    let a = rw e at (kept-within ms (λ u. eqb (sumOf u) want)) in
     (a .0 .0, eqb-true (sumOf s) want (a .0 .1))
 
 -- ---- every list within the marks is a subset
@@ -84,12 +81,13 @@ subsets-has (suc zero ∷ t) (suc m ∷ ms) b h =
     has-left (1 ∷ t) (map (λ s. 1 ∷ s) (subsets ms)) (map (λ s. 0 ∷ s) (subsets ms)) (has-map 1 t (subsets ms) (subsets-has t ms (b .1) (h .1)))
 subsets-has (suc (suc x) ∷ t) (suc m ∷ ms) b h = absurd (omega (arith, h .0, b .0))
 
-kept-has : (p : List ℕ → Bool) (t : List ℕ) (r : List (List ℕ)) → p t ≡ true → Has t r → Has t (keep p r)
+kept-has : (p : List ℕ → Bool) (t : List ℕ) (r : List (List ℕ)) → p t ≡ true → Has t r → Has t (filter p r)
+unfolding filter
 kept-has p t [] e h = absurd h
 kept-has p t (s ∷ r) e (inl q) = rw (← q, e) (inl refl)
 kept-has p t (s ∷ r) e (inr h) = go (p s) (kept-has p t r e h)
   where
-    go : (b : Bool) → Has t (keep p r) → Has t (pick b (s ∷ keep p r) (keep p r))
+    go : (b : Bool) → Has t (filter p r) → Has t (pick b (s ∷ filter p r) (filter p r))
     go true a = inr a
     go false a = a
 
@@ -113,15 +111,17 @@ Apart [] = Unit {0}
 Apart (s ∷ r) = All (λ t. s ≡ t → ⊥) r × Apart r
 
 apart-append : (q r : List (List ℕ)) → Apart q → Apart r → All (λ s. All (λ t. s ≡ t → ⊥) r) q → Apart (q ++ r)
+unfolding All
 apart-append [] r hq hr c = hr
 apart-append (s ∷ q) r hq hr c = (all-append (λ t. s ≡ t → ⊥) q r (hq .0) (c .0), apart-append q r (hq .1) hr (c .1))
 
 apart-map : (x : ℕ) (r : List (List ℕ)) → Apart r → Apart (map (λ s. x ∷ s) r)
 apart-map x [] h = tt
-apart-map x (s ∷ r) h = (all-map (λ t. s ≡ t → ⊥) (λ t. x ∷ s ≡ t → ⊥) (λ t. x ∷ t) (λ t n e. n (ap (drop 1) e)) r (h .0), apart-map x r (h .1))
+apart-map x (s ∷ r) h = (all-image (λ t. x ∷ t) (λ t. s ≡ t → ⊥) (λ t. x ∷ s ≡ t → ⊥) (λ t n e. n (ap (drop 1) e)) r (h .0), apart-map x r (h .1))
 
 -- a subset with the first place and one without it differ
 cross : (q r : List (List ℕ)) → All (λ s. All (λ t. s ≡ t → ⊥) (map (λ s. 0 ∷ s) r)) (map (λ s. 1 ∷ s) q)
+unfolding All
 cross [] r = tt
 cross (s ∷ q) r = (go r, cross q r)
   where
@@ -130,33 +130,26 @@ cross (s ∷ q) r = (go r, cross q r)
     go (t ∷ r) = (λ e. omega (arith, ap (λ (l : List ℕ). getD l 0 0) e), go r)
 
 subsets-apart : (ms : List ℕ) → Apart (subsets ms)
-unfolding subsets
+unfolding All subsets
 subsets-apart [] = (tt, tt)
 subsets-apart (zero ∷ ms) = apart-map 0 (subsets ms) (subsets-apart ms)
 subsets-apart (suc m ∷ ms) =
     apart-append (map (λ s. 1 ∷ s) (subsets ms)) (map (λ s. 0 ∷ s) (subsets ms)) (apart-map 1 (subsets ms) (subsets-apart ms)) (apart-map 0 (subsets ms) (subsets-apart ms)) (cross (subsets ms) (subsets ms))
 
-kept-if : (P : List ℕ → Type 0) (p : List ℕ → Bool) (r : List (List ℕ)) → All P r → All P (keep p r)
-kept-if P p [] h = tt
-kept-if P p (s ∷ r) h = go (p s) (kept-if P p r (h .1))
-  where
-    go : (b : Bool) → All P (keep p r) → All P (pick b (s ∷ keep p r) (keep p r))
-    go true a = (h .0, a)
-    go false a = a
-
-kept-apart : (p : List ℕ → Bool) (r : List (List ℕ)) → Apart r → Apart (keep p r)
+kept-apart : (p : List ℕ → Bool) (r : List (List ℕ)) → Apart r → Apart (filter p r)
+unfolding filter
 kept-apart p [] h = tt
 kept-apart p (s ∷ r) h = go (p s) (kept-apart p r (h .1))
   where
-    go : (b : Bool) → Apart (keep p r) → Apart (pick b (s ∷ keep p r) (keep p r))
-    go true a = (kept-if (λ t. s ≡ t → ⊥) p r (h .0), a)
+    go : (b : Bool) → Apart (filter p r) → Apart (pick b (s ∷ filter p r) (filter p r))
+    go true a = (all-kept (λ t. s ≡ t → ⊥) (λ t. s ≡ t → ⊥) p (λ t e n. n) r (h .0), a)
     go false a = a
 
 -- where two subsets match they are two
 pub match-two : (want : ℕ) (ms s t : List ℕ) (r : List (List ℕ)) → matching want ms ≡ s ∷ t ∷ r
     → Within s ms × (sumOf s ≡ want) × Within t ms × (sumOf t ≡ want) × (s ≡ t → ⊥)
-unfolding matching
+unfolding All matching
 match-two want ms s t r e =
-    let a = rw e at (kept-all (λ u. Within u ms) (λ u. eqb (sumOf u) want) (subsets ms) (subsets-within ms)) in
+    let a = rw e at (kept-within ms (λ u. eqb (sumOf u) want)) in
     let d = rw e at (kept-apart (λ u. eqb (sumOf u) want) (subsets ms) (subsets-apart ms)) in
     (a .0 .0, eqb-true (sumOf s) want (a .0 .1), a .1 .0 .0, eqb-true (sumOf t) want (a .1 .0 .1), d .0 .0)

@@ -10,9 +10,12 @@ use lib.Bits.{bitXor, xor-comm}
 use lib.Dec.{eqb}
 use lib.ListN.{length, length-map, length-append}
 use borrow.Author.Tests.{eq-eqb, ne-eqb, eqb-true, eqb-false}
-use Rattle.lists.specs.Lists.{pick}
+use Rattle.lists.specs.Lists.{pick, filter, All}
+use Rattle.lists.proofs.Each.{all-image}
+use Rattle.lists.proofs.Filter.{filter-append, filter-map}
+use Rattle.lists.proofs.Held.{all-append, all-map, all-of}
 use Rattle.remainders.specs.Division.{syndrome}
-use Rattle.remainders.specs.Correction.{subsets, sumOf, keep, matching}
+use Rattle.remainders.specs.Correction.{subsets, sumOf, matching}
 use Rattle.remainders.specs.Steps.{syndromesOf, ways}
 use Rattle.lists.proofs.Xor.{xor-move}
 
@@ -30,64 +33,27 @@ eqb-move a x w =
     same (bitXor a x) w x (bitXor w a) (λ e. xor-move x a w (xor-comm x a ∙ e))
     (λ e. xor-comm a x ∙ sym (xor-move w a x (sym e)))
 
--- ---- what holds of every subset
-abbrev pub All : (List ℕ → Type 0) → List (List ℕ) → Type 0
-All P [] = Unit {0}
-All P (s ∷ r) = P s × All P r
-
-pub all-append : (P : List ℕ → Type 0) (r t : List (List ℕ)) → All P r → All P t → All P (r ++ t)
-all-append P [] t hr ht = ht
-all-append P (s ∷ r) t hr ht = (hr .0, all-append P r t (hr .1) ht)
-
-pub all-map : (P Q : List ℕ → Type 0) (f : List ℕ → List ℕ) → ((s : List ℕ) → P s → Q (f s)) → (r : List (List ℕ)) → All P r → All Q (map f r)
-all-map P Q f g [] h = tt
-all-map P Q f g (s ∷ r) h = (g s (h .0), all-map P Q f g r (h .1))
-
+-- ---- the length of every subset
 pub subsets-length : (ms : List ℕ) → All (λ s. length s ≡ length ms) (subsets ms)
-unfolding subsets
+unfolding All subsets
 subsets-length [] = (refl, tt)
-subsets-length (zero ∷ ms) = all-map (λ s. length s ≡ length ms) (λ s. length s ≡ suc (length ms)) (λ s. 0 ∷ s) (λ s e. ap suc e) (subsets ms) (subsets-length ms)
+subsets-length (zero ∷ ms) = all-image (λ s. 0 ∷ s) (λ s. length s ≡ length ms) (λ s. length s ≡ suc (length ms)) (λ s e. ap suc e) (subsets ms) (subsets-length ms)
 subsets-length (suc m ∷ ms) =
     all-append (λ s. length s ≡ suc (length ms)) (map (λ s. 1 ∷ s) (subsets ms)) (map (λ s. 0 ∷ s) (subsets ms))
-    (all-map (λ s. length s ≡ length ms) (λ s. length s ≡ suc (length ms)) (λ s. 1 ∷ s) (λ s e. ap suc e) (subsets ms) (subsets-length ms))
-    (all-map (λ s. length s ≡ length ms) (λ s. length s ≡ suc (length ms)) (λ s. 0 ∷ s) (λ s e. ap suc e) (subsets ms) (subsets-length ms))
-
--- ---- keep, over ++ and map
-keep-append : (p : List ℕ → Bool) (r t : List (List ℕ)) → keep p (r ++ t) ≡ keep p r ++ keep p t
-keep-append p [] t = refl
-keep-append p (s ∷ r) t = ap (λ (l : List (List ℕ)). pick (p s) (s ∷ l) l) (keep-append p r t) ∙ go (p s)
-  where
-    go : (b : Bool) → pick b (s ∷ (keep p r ++ keep p t)) (keep p r ++ keep p t) ≡ pick b (s ∷ keep p r) (keep p r) ++ keep p t
-    go true = refl
-    go false = refl
-
-keep-map : (p q : List ℕ → Bool) (f : List ℕ → List ℕ) (r : List (List ℕ)) → All (λ s. p (f s) ≡ q s) r → keep p (map f r) ≡ map f (keep q r)
-keep-map p q f [] h = refl
-keep-map p q f (s ∷ r) h = ap₂ (λ (b : Bool) (l : List (List ℕ)). pick b (f s ∷ l) l) (h .0) (keep-map p q f r (h .1)) ∙ go (q s)
-  where
-    go : (b : Bool) → pick b (f s ∷ map f (keep q r)) (map f (keep q r)) ≡ map f (pick b (s ∷ keep q r) (keep q r))
-    go true = refl
-    go false = refl
-
-all-true : (P : List ℕ → Type 0) → ((s : List ℕ) → P s) → (r : List (List ℕ)) → All P r
-all-true P f [] = tt
-all-true P f (s ∷ r) = (f s, all-true P f r)
-
-all-weaken : (P Q : List ℕ → Type 0) → ((s : List ℕ) → P s → Q s) → (r : List (List ℕ)) → All P r → All Q r
-all-weaken P Q f [] h = tt
-all-weaken P Q f (s ∷ r) h = (f s (h .0), all-weaken P Q f r (h .1))
+    (all-image (λ s. 1 ∷ s) (λ s. length s ≡ length ms) (λ s. length s ≡ suc (length ms)) (λ s e. ap suc e) (subsets ms) (subsets-length ms))
+    (all-image (λ s. 0 ∷ s) (λ s. length s ≡ length ms) (λ s. length s ≡ suc (length ms)) (λ s e. ap suc e) (subsets ms) (subsets-length ms))
 
 -- ---- the matching subsets, from those of the tail
-not-taken : (want : ℕ) (ms : List ℕ) → keep (λ s. eqb (sumOf s) want) (map (λ s. 0 ∷ s) (subsets ms)) ≡ map (λ s. 0 ∷ s) (matching want ms)
+not-taken : (want : ℕ) (ms : List ℕ) → filter (λ s. eqb (sumOf s) want) (map (λ s. 0 ∷ s) (subsets ms)) ≡ map (λ s. 0 ∷ s) (matching want ms)
 unfolding matching sumOf
-not-taken want ms = keep-map (λ s. eqb (sumOf s) want) (λ s. eqb (sumOf s) want) (λ s. 0 ∷ s) (subsets ms) (all-true _ (λ s. refl) (subsets ms))
+not-taken want ms = filter-map (λ s. eqb (sumOf s) want) (λ s. eqb (sumOf s) want) (λ s. 0 ∷ s) (subsets ms) (all-of _ (λ s. refl) (subsets ms))
 
 taken : (want : ℕ) (ms : List ℕ)
-    → keep (λ s. eqb (sumOf s) want) (map (λ s. 1 ∷ s) (subsets ms)) ≡ map (λ s. 1 ∷ s) (matching (bitXor want (syndrome (length ms))) ms)
+    → filter (λ s. eqb (sumOf s) want) (map (λ s. 1 ∷ s) (subsets ms)) ≡ map (λ s. 1 ∷ s) (matching (bitXor want (syndrome (length ms))) ms)
 unfolding matching sumOf
 taken want ms =
-    keep-map (λ s. eqb (sumOf s) want) (λ s. eqb (sumOf s) (bitXor want (syndrome (length ms)))) (λ s. 1 ∷ s) (subsets ms)
-    (all-weaken (λ s. length s ≡ length ms) _ (λ s e. ap (λ (n : ℕ). eqb (bitXor (syndrome n) (sumOf s)) want) e ∙ eqb-move (syndrome (length ms)) (sumOf s) want) (subsets ms) (subsets-length ms))
+    filter-map (λ s. eqb (sumOf s) want) (λ s. eqb (sumOf s) (bitXor want (syndrome (length ms)))) (λ s. 1 ∷ s) (subsets ms)
+    (all-map (λ s. length s ≡ length ms) _ (λ s e. ap (λ (n : ℕ). eqb (bitXor (syndrome n) (sumOf s)) want) e ∙ eqb-move (syndrome (length ms)) (sumOf s) want) (subsets ms) (subsets-length ms))
 
 pub matching-plain : (want : ℕ) (ms : List ℕ) → matching want (0 ∷ ms) ≡ map (λ s. 0 ∷ s) (matching want ms)
 unfolding matching subsets
@@ -97,7 +63,7 @@ pub matching-mark : (want m : ℕ) (ms : List ℕ)
     → matching want (suc m ∷ ms) ≡ map (λ s. 1 ∷ s) (matching (bitXor want (syndrome (length ms))) ms) ++ map (λ s. 0 ∷ s) (matching want ms)
 unfolding matching subsets
 matching-mark want m ms =
-    keep-append (λ s. eqb (sumOf s) want) (map (λ s. 1 ∷ s) (subsets ms)) (map (λ s. 0 ∷ s) (subsets ms))
+    filter-append (λ s. eqb (sumOf s) want) (map (λ s. 1 ∷ s) (subsets ms)) (map (λ s. 0 ∷ s) (subsets ms))
     ∙ ap₂ _++_ (taken want ms) (not-taken want ms)
 
 -- ---- how many match
@@ -106,7 +72,7 @@ one-or-none true = refl
 one-or-none false = refl
 
 count-none : (want : ℕ) → length (matching want []) ≡ pick (eqb want 0) 1 0
-unfolding matching subsets sumOf
+unfolding filter matching subsets sumOf
 count-none want = one-or-none (eqb 0 want) ∙ ap (λ (b : Bool). pick b 1 0) (same 0 want want 0 sym sym)
 
 pub count-law : (want : ℕ) (ms : List ℕ) → length (matching want ms) ≡ ways want (syndromesOf ms)

@@ -11,7 +11,7 @@ use lib.Dec.{eqb}
 use lib.Bits.{bitXor}
 use lib.ListN.{length, drop, take, getD, set, drop-of-length-le}
 use lib.Seq.{drop-drop, drop-cons, take-suc-set, take-all}
-use Rattle.lists.specs.Lists.{pick, spelled}
+use Rattle.lists.specs.Lists.{pick, spelled, filter}
 use Rattle.remainders.specs.Correction.{matching, subsets, sumOf, weight, flipped}
 use Rattle.remainders.specs.Steps.{Left, Chosen, ChosenByte, first}
 use Rattle.remainders.proofs.Choosing.{first-is}
@@ -105,7 +105,7 @@ empty-only true u e = cc
 empty-only false u e = absurd (omega (arith, ap length e))
 
 none-left : (want : ℕ) (u : List ℕ) → matching want [] ≡ u ∷ [] → u ≡ []
-unfolding matching subsets sumOf
+unfolding filter matching subsets sumOf
 none-left want u e = empty-only (eqb 0 want) u e
 
 pub written-end : (ms syns msg s : List ℕ) (j k want flips : ℕ) (out : List ℕ) → length ms ≤ j * 8 → length out ≤ j → length msg ≤ j

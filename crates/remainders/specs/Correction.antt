@@ -7,7 +7,7 @@ use mathlib.Core.List.{List, [], _∷_, _++_, map}
 use lib.Bits.{bitXor}
 use lib.Dec.{eqb, leb, ltb}
 use lib.ListN.{length, take, drop}
-use Rattle.lists.specs.Lists.{pick, spelled}
+use Rattle.lists.specs.Lists.{pick, filter, spelled}
 use Rattle.remainders.specs.Messages.{bits, whole}
 use Rattle.remainders.specs.Answers.{Outcome, refused}
 use Rattle.remainders.specs.Division.{remainderOf, syndrome}
@@ -29,14 +29,9 @@ sumOf [] = 0
 sumOf (zero ∷ s) = sumOf s
 sumOf (suc b ∷ s) = bitXor (syndrome (length s)) (sumOf s)
 
--- the lists that pass a test, in their order
-abbrev pub keep : (List ℕ → Bool) → List (List ℕ) → List (List ℕ)
-keep p [] = []
-keep p (s ∷ r) = pick (p s) (s ∷ keep p r) (keep p r)
-
 -- the subsets of the marked places that match: those whose XOR is `want`
 unfoldable pub matching : ℕ → List ℕ → List (List ℕ)
-matching want ms = keep (λ s. eqb (sumOf s) want) (subsets ms)
+matching want ms = filter (λ s. eqb (sumOf s) want) (subsets ms)
 
 -- "remainder XOR overlay"
 abbrev pub want : List ℕ → ℕ → ℕ

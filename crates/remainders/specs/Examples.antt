@@ -6,6 +6,7 @@ use mathlib.Core.List.{List, [], _∷_}
 use lib.Bits.{bitXor}
 use lib.ListN.{replicate, set}
 use Rattle.lists.specs.Listing.{Row, row, Agrees}
+use Rattle.lists.specs.Lists.{filter}
 use Rattle.remainders.specs.Messages.{bits}
 use Rattle.remainders.specs.Division.{shiftIn, divide, remainderOf, syndrome, syndromeOfBit}
 use Rattle.remainders.specs.Overlays.{lowBits, times, overlayOf, uplinkOverlay}
@@ -59,5 +60,5 @@ listing =
 
 -- the one claim
 pub listing-agrees : Agrees listing
-unfolding bits shiftIn divide remainderOf syndrome weight subsets sumOf matching flipped correction lowBits times overlayOf
+unfolding filter bits shiftIn divide remainderOf syndrome weight subsets sumOf matching flipped correction lowBits times overlayOf
 listing-agrees = (refl, (refl, (refl, (refl, (refl, (refl, (refl, tt)))))))
