@@ -1,4 +1,5 @@
-// The calls of the roll-call planner: exchanges, shares and plans. Their definitions, those of document 01's "Ticks, windows, shares", stand in crate plans.
+// The calls of the roll-call planner: exchanges, shares and plans. Their definitions, those of document 01's "Ticks, windows,
+// shares", stand in crate plans.
 mod entry;
 mod exchange;
 mod plan;

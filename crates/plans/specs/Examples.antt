@@ -1,4 +1,5 @@
--- The examples of document 01 that speak of plans and shares, and cases worked by hand from its rules: what the definitions give beside what the paper gives.
+-- The examples of document 01 that speak of plans and shares, and cases worked by hand from its rules: what the definitions give
+-- beside what the paper gives.
 use Prim.Native.Nat.{ℕ}
 use mathlib.Core.Path.{refl}
 use mathlib.Core.List.{List, [], _∷_, map}
@@ -53,7 +54,8 @@ listing-agrees = (refl, (refl, (refl, (refl, (refl, tt)))))
 abbrev ticks : Course → List ℕ
 ticks x = x .sent ∷ x .from ∷ x .to ∷ []
 
--- P1's first entry listens in [2530, 3022) from 0, its second in [1665, 1927) from 135; RR 15 draws the short reply and RR 16 the long one; UF 5 is short, UF 21 long
+-- P1's first entry listens in [2530, 3022) from 0, its second in [1665, 1927) from 135; RR 15 draws the short reply and RR 16 the
+-- long one; UF 5 is short, UF 21 long
 abbrev exchanges : List Row
 exchanges =
     row (ticks (lasting sentLong 2000 2010 (replyFor 16))) (135 ∷ 2530 ∷ 3022 ∷ [])
@@ -70,13 +72,19 @@ exchanges =
 abbrev limited : ℕ → Setup
 limited n = record { period = 20000; reach = 3000; limit = n; guarantee = shares 2 1; ceiling = shares 3 2 }
 
+-- guarantees and ceilings in the longest period, with no reach
+abbrev shared : List ℕ → List ℕ → Setup
+shared g c = setup 65535 0 g c
+
 -- R 13,000 and 13,001; limit 12 and 13; shares of 16 and 17; a guarantee above its ceiling; one of 17 above a ceiling of 16
 abbrev setups : List Row
 setups =
-    row (judged (setup 65535 13000 (shares 1 0) (shares 1 0)) ∷ judged (setup 65535 13001 (shares 1 0) (shares 1 0)) ∷ []) (0 ∷ 2 ∷ [])
+    row (judged (setup 65535 13000 (shares 1 0) (shares 1 0)) ∷ []) (0 ∷ [])
+    ∷ row (judged (setup 65535 13001 (shares 1 0) (shares 1 0)) ∷ []) (2 ∷ [])
     ∷ row (judged (limited 12) ∷ judged (limited 13) ∷ []) (0 ∷ 2 ∷ [])
-    ∷ row (judged (setup 65535 0 (shares 16 0) (shares 16 16)) ∷ judged (setup 65535 0 (shares 0 0) (shares 16 17)) ∷ judged (setup 65535 0 (shares 17 0) (shares 17 0)) ∷ []) (0 ∷ 2 ∷ 2 ∷ [])
-    ∷ row (judged (setup 65535 0 (shares 3 0) (shares 2 0)) ∷ judged (setup 65535 0 (shares 17 0) (shares 16 0)) ∷ []) (3 ∷ 2 ∷ [])
+    ∷ row (judged (shared (shares 16 0) (shares 16 16)) ∷ judged (shared (shares 0 0) (shares 16 17)) ∷ []) (0 ∷ 2 ∷ [])
+    ∷ row (judged (shared (shares 17 0) (shares 17 0)) ∷ judged (shared (shares 17 0) (shares 16 0)) ∷ []) (2 ∷ 2 ∷ [])
+    ∷ row (judged (shared (shares 3 0) (shares 2 0)) ∷ []) (3 ∷ [])
     ∷ []
 
 -- ---- plans: the addresses placed, in their order, and those left waiting
@@ -95,8 +103,11 @@ abbrev brief : ℕ → ℕ → Ask
 brief unit address = ask unit address 4 0 1000 1004
 
 -- units 2, 1 and 0 ask in that order, each with a guarantee of one
+abbrev ones : List ℕ
+ones = 1 ∷ 1 ∷ 1 ∷ 0 ∷ 0 ∷ 0 ∷ 0 ∷ 0 ∷ []
+
 abbrev in-turn : Board
-in-turn = plan (setup 20000 3000 (1 ∷ 1 ∷ 1 ∷ 0 ∷ 0 ∷ 0 ∷ 0 ∷ 0 ∷ []) (1 ∷ 1 ∷ 1 ∷ 0 ∷ 0 ∷ 0 ∷ 0 ∷ 0 ∷ [])) (brief 2 3 ∷ brief 1 2 ∷ brief 0 1 ∷ [])
+in-turn = plan (setup 20000 3000 ones ones) (brief 2 3 ∷ brief 1 2 ∷ brief 0 1 ∷ [])
 
 -- without guarantees unit 1 asks before unit 0; and unit 0 asks three times with a ceiling of two
 abbrev by-age : Board
@@ -123,7 +134,7 @@ exchanges-agree = (refl, (refl, (refl, (refl, (refl, (refl, (refl, (refl, tt))))
 
 setups-agree : Agrees setups
 unfolding total every sharesFit judged
-setups-agree = (refl, (refl, (refl, (refl, tt))))
+setups-agree = (refl, (refl, (refl, (refl, (refl, (refl, tt))))))
 
 plans-agree : Agrees plans
 unfolding countOf sentFor replyFor apart clear clearOf fits first place tried pass alone turns plan

@@ -1,4 +1,5 @@
-// Requests, setups, entries and plans. What document 01 says of them under "Ticks, windows, shares" stands in specs/, and the theorems of demand 3 in proofs/; the calls are in crate planner.
+// Requests, setups, entries and plans. What document 01 says of them under "Ticks, windows, shares" stands in specs/, and the
+// theorems of demand 3 in proofs/; the calls are in crate planner.
 mod entry;
 mod plan;
 mod request;

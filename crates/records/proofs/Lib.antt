@@ -1,5 +1,5 @@
--- The laws of records: for the crate's own proofs and for the crates above.
-pub mod Numbers
+-- The laws of records, for the calls and for the crates above, and worked examples.
 pub mod Steps
 pub mod Parts
+pub mod Readers
 mod Examples

@@ -1,31 +1,5 @@
-// The reader: the stream and its place together. Thin functions over it leave the work to those on stream and place.
-ghost use mathlib.Core.Path.{_≡_};
-ghost use Rattle.records.specs.Records.{recordAt};
-use crate::reading::Found;
-use crate::reading::record_at;
-
+// The reader: the stream and its place together.
 pub struct Reader<'a> {
     pub stream: &'a [u8],
     pub place: usize,
-}
-
-// A reader of a stream at a place.
-pub fn reader_at<'a>(stream: &'a [u8], place: usize) -> Reader<'a>
-    ensures { λ r. ⌜ (r .stream ≡ stream .entry) × (r .place ≡ place) ⌝ }
-{
-    Reader { stream, place }
-}
-
-// What the reader finds where it is.
-pub fn next<'a>(r: Reader<'a>) -> Found
-    ensures { λ f. ⌜ f ≡ recordAt (now (r .entry .stream)) (r .entry .place) ⌝ }
-{
-    record_at(r.stream, r.place)
-}
-
-// What the reader finds at a place: of plain parameters, for covered code to call.
-pub fn found_at(s: &[u8], at: usize) -> Found
-    ensures { λ r. ⌜ r ≡ recordAt (now (s .entry)) at ⌝ }
-{
-    next(reader_at(s, at))
 }

@@ -33,7 +33,7 @@ fn put_answered(n: u32, kind: u8, a: Answer, out: &mut [u8]) -> Done
 fn obey_setup(s: &[u8], b: usize, n: u32, st: Station, out: &mut [u8]) -> Done
     ensures { λ r. ⌜ Did (answered n 1 (setUp st (setupAt (now (s .entry)) b))) (now (out .entry)) (now (out .exit)) r ⌝ }
 {
-    let h = records::setup_at(s, b);
+    let h = reader::setup_at(s, b);
     let a = station::set_up(st, h);
     put_answered(n, 1, a, out)
 }
@@ -41,7 +41,7 @@ fn obey_setup(s: &[u8], b: usize, n: u32, st: Station, out: &mut [u8]) -> Done
 fn obey_new(s: &[u8], b: usize, n: u32, st: Station, out: &mut [u8]) -> Done
     ensures { λ r. ⌜ Did (answered n 2 (newTarget st (edgesAt (now (s .entry)) b .address) (edgesAt (now (s .entry)) b .near) (edgesAt (now (s .entry)) b .far))) (now (out .entry)) (now (out .exit)) r ⌝ }
 {
-    let e = records::edges_at(s, b);
+    let e = reader::edges_at(s, b);
     let a = station::add_target(st, e.address, e.near, e.far);
     put_answered(n, 2, a, out)
 }
@@ -49,7 +49,7 @@ fn obey_new(s: &[u8], b: usize, n: u32, st: Station, out: &mut [u8]) -> Done
 fn obey_remove(s: &[u8], b: usize, n: u32, st: Station, out: &mut [u8]) -> Done
     ensures { λ r. ⌜ Did (answered n 3 (removed st (addressAt (now (s .entry)) b))) (now (out .entry)) (now (out .exit)) r ⌝ }
 {
-    let address = records::address_at(s, b);
+    let address = reader::address_at(s, b);
     let a = station::remove_target(st, address);
     put_answered(n, 3, a, out)
 }
@@ -57,7 +57,7 @@ fn obey_remove(s: &[u8], b: usize, n: u32, st: Station, out: &mut [u8]) -> Done
 fn obey_request(s: &[u8], b: usize, n: u32, st: Station, out: &mut [u8]) -> Done
     ensures { λ r. ⌜ Did (answered n 4 (requested st (requestAt (now (s .entry)) b))) (now (out .entry)) (now (out .exit)) r ⌝ }
 {
-    let q = records::request_at(s, b);
+    let q = reader::request_at(s, b);
     let a = station::take_request(st, q);
     put_answered(n, 4, a, out)
 }
@@ -66,7 +66,7 @@ fn obey_request(s: &[u8], b: usize, n: u32, st: Station, out: &mut [u8]) -> Done
 fn obey_plan(s: &[u8], b: usize, n: u32, st: Station, out: &mut [u8]) -> Done
     ensures { λ r. ⌜ Did (planned n (nextPlan st (tagAt (now (s .entry)) b))) (now (out .entry)) (now (out .exit)) r ⌝ }
 {
-    let tag = records::tag_at(s, b);
+    let tag = reader::tag_at(s, b);
     let after = station::plan_period(st, tag);
     let first = put_answer(out, 0, n, 5, 0);
     let plan = after.plan;
@@ -82,7 +82,7 @@ fn obey_plan(s: &[u8], b: usize, n: u32, st: Station, out: &mut [u8]) -> Done
 fn obey_report(s: &[u8], b: usize, n: u32, st: Station, out: &mut [u8]) -> Done
     ensures { λ r. ⌜ Did (reportedTo n st (reported st (addressAt (now (s .entry)) b))) (now (out .entry)) (now (out .exit)) r ⌝ }
 {
-    let address = records::address_at(s, b);
+    let address = reader::address_at(s, b);
     let t = station::report_on(st, address);
     let first = put_answer(out, 0, n, 8, t.number);
     if t.number != 0 {
@@ -103,7 +103,7 @@ fn obey_report(s: &[u8], b: usize, n: u32, st: Station, out: &mut [u8]) -> Done
 fn obey_move(s: &[u8], b: usize, n: u32, st: Station, out: &mut [u8]) -> Done
     ensures { λ r. ⌜ Did (answered n 9 (moved st (edgesAt (now (s .entry)) b .address) (edgesAt (now (s .entry)) b .near) (edgesAt (now (s .entry)) b .far))) (now (out .entry)) (now (out .exit)) r ⌝ }
 {
-    let e = records::edges_at(s, b);
+    let e = reader::edges_at(s, b);
     let a = station::move_target(st, e.address, e.near, e.far);
     put_answered(n, 9, a, out)
 }

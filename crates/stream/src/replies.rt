@@ -40,7 +40,7 @@ fn obey_reply(
 ) -> Done
     ensures { λ r. ⌜ Did (repliedTo n kind (replyTo (now (s .entry)) kind b st (now (corrected .entry)))) (now (out .entry)) (now (out .exit)) r ⌝ }
 {
-    let q = records::reply_at(s, kind, b);
+    let q = reader::reply_at(s, kind, b);
     let message = q.message;
     let marks = q.marks;
     let end = q.end;

@@ -17,7 +17,7 @@ pub(crate) struct Step {
 pub(crate) fn put_step(s: &[u8], at: usize, n: u32, st: Station, out: &mut [u8]) -> Step
     ensures { λ r. ⌜ Stepped (now (s .entry)) at n st (now (out .entry)) (now (out .exit)) r ⌝ }
 {
-    match records::found_at(s, at) {
+    match reader::found_at(s, at) {
         Found::End => Step {
             station: st,
             more: false,

@@ -1,5 +1,4 @@
 -- `try_fit` is the place of a request, where its unit is below its limit.
-use mathlib.Core.Path.{refl, _∙_}
 use borrow.Author.Tests.{lt-ltb, le-ltb}
 use borrow.Author.Needs.{needs}
 use Rattle.planner.proofs.search.try_fit.Statement.{statement}

@@ -1,0 +1,22 @@
+// The calls that read records: their kinds and lengths, what stands in their bodies, and the reader that carries the stream and
+// its place. Their definitions stand in crate records.
+mod fields;
+mod kinds;
+mod reader;
+mod reading;
+
+pub use fields::address_at;
+pub use fields::edges_at;
+pub use fields::reply_at;
+pub use fields::request_at;
+pub use fields::setup_at;
+pub use fields::tag_at;
+pub use kinds::body_length;
+pub use reader::found_at;
+pub use reader::next;
+pub use reader::reader_at;
+pub use reading::record_at;
+pub use records::Edges;
+pub use records::Found;
+pub use records::Reader;
+pub use records::Reply;

@@ -1,0 +1,28 @@
+// The calls on a reader. Thin functions over it leave the work to those on stream and place.
+ghost use mathlib.Core.Path.{_≡_};
+ghost use Rattle.records.specs.Records.{recordAt};
+ghost use Rattle.records.specs.Readers.{readerAt, foundBy};
+use crate::reading::record_at;
+use records::Found;
+use records::Reader;
+
+// A reader of a stream at a place.
+pub fn reader_at<'a>(stream: &'a [u8], place: usize) -> Reader<'a>
+    ensures { λ r. ⌜ r ≡ readerAt (stream .entry) place ⌝ }
+{
+    Reader { stream, place }
+}
+
+// What the reader finds where it is.
+pub fn next<'a>(r: Reader<'a>) -> Found
+    ensures { λ f. ⌜ f ≡ foundBy (r .entry) ⌝ }
+{
+    record_at(r.stream, r.place)
+}
+
+// What the reader finds at a place: of plain parameters, for covered code to call.
+pub fn found_at(s: &[u8], at: usize) -> Found
+    ensures { λ r. ⌜ r ≡ recordAt (now (s .entry)) at ⌝ }
+{
+    next(reader_at(s, at))
+}

@@ -1,0 +1,15 @@
+-- The reader, which carries the stream and its place together.
+use Prim.Native.Nat.{ℕ}
+use mathlib.Core.List.{List}
+use denote.Ref.{RefT, now}
+use Rattle.records.specs.declared.reader.Reader.{Reader}
+use Rattle.records.specs.declared.reading.Found.{Found}
+use Rattle.records.specs.Records.{recordAt}
+
+-- a reader of a stream at a place
+abbrev pub readerAt : RefT (List ℕ) → ℕ → Reader
+readerAt s at = record { stream = s; place = at }
+
+-- what the reader finds where it is
+abbrev pub foundBy : Reader → Found
+foundBy r = recordAt (now (r .stream)) (r .place)
