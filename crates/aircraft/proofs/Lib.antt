@@ -1,3 +1,2 @@
--- The laws of the crate: the texts from what the code has laid, and that each line's text fits.
+-- The laws of the crate: the texts from what the code has laid.
 pub mod Texts
-pub mod Short

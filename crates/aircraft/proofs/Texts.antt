@@ -15,9 +15,9 @@ use Rattle.letters.specs.Hex.{hexOf}
 use Rattle.transponder.specs.declared.state.Lock.{Lock}
 use Rattle.transponder.specs.declared.state.Timer.{Timer}
 use Rattle.transponder.specs.Lockout.{locks}
-use Rattle.aircraft.specs.declared.state.Aircraft.{Aircraft}
-use Rattle.aircraft.specs.declared.state.Shown.{Shown}
-use Rattle.aircraft.specs.Lines.{Said, Showed, unreadSaid, whenMade, replyText, codeText, lockText, locksText}
+use Rattle.sayings.specs.declared.state.Aircraft.{Aircraft}
+use Rattle.sayings.specs.declared.state.Shown.{Shown}
+use Rattle.sayings.specs.Aircraft.{Said, Showed, unreadSaid, whenMade, sentText, timerText, lockText, locksText}
 
 -- what was shown, by another name
 pub showed-of : {x y : Said} {l m : List ℕ} {r : Shown} → x ≡ y → Showed x l m r → Showed y l m r
@@ -34,17 +34,17 @@ module _ (a : Aircraft) (s : Said) where
   made-said h = ap (λ (t : Bool). pick t s (unreadSaid a)) (not-false (a .made) h)
 
 -- ---- a reply: none, some of the buffer's bytes, all of them
-pub reply-none : {n : ℕ} (l : List ℕ) → n ≡ 0 → plain "-" ≡ replyText (take n l)
-unfolding replyText
+pub reply-none : {n : ℕ} (l : List ℕ) → n ≡ 0 → plain "-" ≡ sentText (take n l)
+unfolding sentText
 reply-none l e = rw e
 
-pub reply-some : (n : ℕ) (l : List ℕ) → (n ≡ 0 → ⊥) → 0 < length l → replyText (take n l) ≡ hexOf (take n l)
-unfolding replyText
+pub reply-some : (n : ℕ) (l : List ℕ) → (n ≡ 0 → ⊥) → 0 < length l → sentText (take n l) ≡ hexOf (take n l)
+unfolding sentText
 reply-some zero l h k = absurd (h refl)
 reply-some (suc n) [] h k = absurd (omega arith)
 reply-some (suc n) (b ∷ l) h k = refl
 
-pub reply-all : (n : ℕ) (l : List ℕ) → (n ≡ 0 → ⊥) → 0 < length l → length l ≤ n → replyText (take n l) ≡ hexOf l
+pub reply-all : (n : ℕ) (l : List ℕ) → (n ≡ 0 → ⊥) → 0 < length l → length l ≤ n → sentText (take n l) ≡ hexOf l
 reply-all n l h k e = reply-some n l h k ∙ ap hexOf (take-all n l e)
 
 -- ---- the code of a timer
@@ -54,11 +54,11 @@ module _ (k : ℕ) (l : Lock) where
   lock-free e = rw e
 
   pub lock-ii : locks l ≡ true → k < 16 → lockText k l ≡ plain " II" ++ decimal k
-  unfolding lockText codeText
+  unfolding lockText timerText
   lock-ii e h = rw (e, lt-ltb k 16 h)
 
   pub lock-si : locks l ≡ true → 16 ≤ k → lockText k l ≡ plain " SI" ++ decimal (k - 15)
-  unfolding lockText codeText
+  unfolding lockText timerText
   lock-si e h = rw (e, le-ltb k 16 h)
 
 -- ---- the codes of the timers, of which those before place i are put

@@ -1,7 +1,7 @@
 // The answers without a value.
-ghost use Rattle.aircraft.specs.Lines.{Showed, unreadSaid, numberSaid};
-use crate::state::Aircraft;
-use crate::state::Shown;
+ghost use Rattle.sayings.specs.Aircraft.{Showed, unreadSaid, numberSaid};
+use sayings::Aircraft;
+use sayings::Shown;
 
 // For a line that cannot be read.
 pub(crate) fn put_unread(a: Aircraft, out: &mut [u8]) -> Shown

@@ -1,4 +1,4 @@
-// The lines of the bench console that make, feed and show the model aircraft, as their very bytes.
+// The lines of the bench console that make, feed and show the model aircraft, as their very bytes. Their definitions stand in crate sayings.
 mod answers;
 mod making;
 mod queuing;
@@ -8,8 +8,8 @@ mod state;
 
 pub use making::put_model;
 pub use queuing::put_queue;
+pub use sayings::Aircraft;
+pub use sayings::Shown;
 pub use sending::put_send;
 pub use showing::put_state;
-pub use state::Aircraft;
-pub use state::Shown;
 pub use state::none;

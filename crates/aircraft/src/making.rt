@@ -1,11 +1,11 @@
 // The line `model ADDRESS AC ID FS CA`.
 ghost use Rattle.letters.specs.Line.{wordsOf};
-ghost use Rattle.aircraft.specs.Lines.{Showed, madeSaid, modelSaid};
+ghost use Rattle.sayings.specs.Aircraft.{Showed, madeSaid, modelSaid};
 use crate::answers::put_number;
 use crate::answers::put_unread;
-use crate::state::Aircraft;
-use crate::state::Shown;
 use letters::Number;
+use sayings::Aircraft;
+use sayings::Shown;
 use transponder::Made;
 
 // The aircraft that was made, or the one before.

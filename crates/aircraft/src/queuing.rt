@@ -1,11 +1,11 @@
 // The line `queue HEX`.
 ghost use Rattle.letters.specs.Line.{wordsOf};
-ghost use Rattle.aircraft.specs.Lines.{Showed, queuedSaid, queueSaid};
+ghost use Rattle.sayings.specs.Aircraft.{Showed, queuedSaid, queueSaid};
 use crate::answers::put_number;
 use crate::answers::put_unread;
-use crate::state::Aircraft;
-use crate::state::Shown;
 use letters::Hex;
+use sayings::Aircraft;
+use sayings::Shown;
 use transponder::Queued;
 
 // What the queuing answered.

@@ -2,18 +2,18 @@
 ghost use lib.ListN.{take};
 ghost use Rattle.letters.specs.Put.{Put};
 ghost use Rattle.letters.specs.Line.{wordsOf};
-ghost use Rattle.aircraft.specs.Lines.{Showed, replyText, tookSaid, sendSaid};
+ghost use Rattle.sayings.specs.Aircraft.{Showed, sentText, tookSaid, sendSaid};
 use crate::answers::put_number;
 use crate::answers::put_unread;
-use crate::state::Aircraft;
-use crate::state::Shown;
 use letters::Hex;
 use letters::Number;
+use sayings::Aircraft;
+use sayings::Shown;
 use transponder::Took;
 
 // The first n bytes of a reply, or "-" for none.
 fn put_reply(out: &mut [u8], at: usize, n: usize, reply: [u8; 14]) -> usize
-    ensures { λ r. ⌜ Put (replyText (take n reply)) at (now (out .entry)) (now (out .exit)) r ⌝ }
+    ensures { λ r. ⌜ Put (sentText (take n reply)) at (now (out .entry)) (now (out .exit)) r ⌝ }
 {
     if n == 0 {
         return text::put_byte(out, at, 45);

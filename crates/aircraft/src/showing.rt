@@ -2,10 +2,10 @@
 ghost use Prim.Native.Nat.{_≤_};
 ghost use lib.ListN.{length};
 ghost use Rattle.letters.specs.Put.{Put};
-ghost use Rattle.aircraft.specs.Lines.{Showed, holderText, lockText, locksText, stateText, stateSaid};
+ghost use Rattle.sayings.specs.Aircraft.{Showed, holderText, lockText, locksText, stateText, stateSaid};
 use crate::answers::put_unread;
-use crate::state::Aircraft;
-use crate::state::Shown;
+use sayings::Aircraft;
+use sayings::Shown;
 use transponder::Holder;
 use transponder::Lock;
 use transponder::Timers;

@@ -1,19 +1,7 @@
-// The aircraft of the console, and what a line that may change it answers.
+// The aircraft before any line.
 ghost use mathlib.Core.Path.{_≡_};
-ghost use Rattle.aircraft.specs.Lines.{unmade};
-use transponder::Transponder;
-
-// Whether an aircraft was made, and its transponder, which is of no use before.
-pub struct Aircraft {
-    pub made: bool,
-    pub transponder: Transponder,
-}
-
-// A line was answered: how many bytes of text stand in the lent buffer, and the aircraft afterwards.
-pub struct Shown {
-    pub size: usize,
-    pub aircraft: Aircraft,
-}
+ghost use Rattle.sayings.specs.Aircraft.{unmade};
+use sayings::Aircraft;
 
 // No aircraft.
 pub fn none() -> Aircraft

@@ -1,4 +1,2 @@
--- The laws of the crate: the table of names, a line by its words, and the whole run.
-pub mod Table
+-- The laws of the crate: a line by its words.
 pub mod Lines
-pub mod Run

@@ -10,11 +10,11 @@ use Rattle.letters.specs.Line.{wordsOf, within, LineHeld}
 use Rattle.letters.specs.Put.{Put}
 use Rattle.letters.specs.declared.answer.Span.{Span}
 use Rattle.letters.proofs.Run.{took}
-use Rattle.commands.specs.Texts.{word}
-use Rattle.aircraft.specs.declared.state.Aircraft.{Aircraft}
-use Rattle.aircraft.specs.declared.state.Shown.{Shown}
-use Rattle.aircraft.specs.Lines.{saying, Showed}
-use Rattle.calls.specs.Console.{Answered, comment, commandSaid, wordsSaid, lineSaid, lineText, lineLeaves}
+use Rattle.sayings.specs.Texts.{word}
+use Rattle.sayings.specs.declared.state.Aircraft.{Aircraft}
+use Rattle.sayings.specs.declared.state.Shown.{Shown}
+use Rattle.sayings.specs.Aircraft.{saying, Showed}
+use Rattle.sayings.specs.Console.{Answered, comment, commandSaid, wordsSaid, lineSaid, lineText, lineLeaves}
 
 -- the first byte of a word
 pub comment-none : (w : List ℕ) → length w ≡ 0 → false ≡ comment w

@@ -1,22 +1,16 @@
 // The lines of the console: the call that a line's first word names, and the lines of an input one after the other.
 ghost use mathlib.Core.Path.{_≡_};
 ghost use Rattle.letters.specs.Line.{wordsOf};
-ghost use Rattle.commands.specs.Texts.{word};
-ghost use Rattle.aircraft.specs.Lines.{Showed};
-ghost use Rattle.calls.specs.Console.{Answered, callSaid, commandSaid, comment, lineSaid};
+ghost use Rattle.sayings.specs.Texts.{word};
+ghost use Rattle.sayings.specs.Aircraft.{Showed};
+ghost use Rattle.sayings.specs.Console.{Answered, callSaid, commandSaid, comment, lineSaid};
 use crate::help::put_help;
-use crate::names::Command;
 use crate::names::find_command;
 use crate::names::words_for;
-use aircraft::Aircraft;
-use aircraft::Shown;
-
-// A line was answered: the place of the next one, how many bytes of text stand in the lent buffer, and the aircraft afterwards.
-pub struct Answer {
-    pub next: usize,
-    pub size: usize,
-    pub aircraft: Aircraft,
-}
+use sayings::Aircraft;
+use sayings::Answer;
+use sayings::Command;
+use sayings::Shown;
 
 // A text was laid, and the aircraft stays as it was.
 fn stay(size: usize, a: Aircraft) -> Shown

@@ -1,6 +1,6 @@
 // The line `help`.
 ghost use Rattle.letters.specs.Put.{Put};
-ghost use Rattle.calls.specs.Help.{helpText};
+ghost use Rattle.sayings.specs.Help.{helpText};
 
 // The words of the console, one line each.
 pub(crate) fn put_help(out: &mut [u8]) -> usize

@@ -2,26 +2,8 @@
 ghost use Prim.Native.Nat.{_<_};
 ghost use mathlib.Core.Path.{_≡_};
 ghost use Rattle.letters.specs.Line.{sameAs};
-ghost use Rattle.calls.specs.Names.{commandOf, rowAt, rowCount, wordsFor};
-
-// A call of the console.
-pub enum Command {
-    Remainder,
-    Overlay,
-    Correct,
-    Build,
-    AllCall,
-    Up,
-    Down,
-    Code,
-    Feet,
-    Model,
-    Queue,
-    Send,
-    State,
-    Help,
-    Unknown,
-}
+ghost use Rattle.sayings.specs.Names.{commandOf, rowAt, rowCount, wordsFor};
+use sayings::Command;
 
 // The word is the k-th name.
 fn is_name(word: &[u8], k: usize) -> bool

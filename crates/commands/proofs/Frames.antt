@@ -4,7 +4,7 @@ use mathlib.Core.Path.{_≡_}
 use mathlib.Core.List.{List}
 use Rattle.fields.specs.Answers.{Answer}
 use Rattle.fields.specs.Reading.{readUp, readDown, mbPart}
-use Rattle.commands.specs.Frames.{readText, interrogationText, replyText}
+use Rattle.sayings.specs.Frames.{readText, interrogationText, replyText}
 
 -- a reply that was read
 pub as-reply : (msg : List ℕ) {a : Answer} {part : List ℕ} → a ≡ readDown msg → part ≡ mbPart msg → readText a part ≡ replyText msg

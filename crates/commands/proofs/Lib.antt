@@ -1,4 +1,3 @@
--- The laws of the crate: the texts from their parts, and that each line's text fits.
+-- The laws of the crate: the texts from their parts.
 pub mod Texts
 pub mod Frames
-pub mod Short

@@ -12,7 +12,7 @@ use Rattle.letters.proofs.HexRead.{hex-found, hex-not, hex-same}
 use Rattle.letters.specs.declared.answer.Span.{Span}
 use Rattle.letters.specs.declared.answer.Hex.{Hex}
 use Rattle.letters.specs.declared.answer.Hex.the-variants.{Bytes, Not}
-use Rattle.commands.specs.Texts.{word}
+use Rattle.sayings.specs.Texts.{word}
 
 -- ---- read
 

@@ -2,8 +2,8 @@
 ghost use Rattle.letters.specs.Put.{Put};
 ghost use Rattle.letters.specs.Hex.{hexIn};
 ghost use Rattle.remainders.specs.Answers.{answered};
-ghost use Rattle.commands.specs.Texts.{unread, doneText, refusalText};
-ghost use Rattle.commands.specs.Parity.{reckonedText};
+ghost use Rattle.sayings.specs.Texts.{unread, doneText, refusalText};
+ghost use Rattle.sayings.specs.Parity.{reckonedText};
 use parity::Reckoned;
 
 // For a line that cannot be read.

@@ -2,7 +2,7 @@
 ghost use Rattle.letters.specs.Put.{Put};
 ghost use Rattle.letters.specs.Line.{wordsOf};
 ghost use Rattle.fields.specs.Answers.{said};
-ghost use Rattle.commands.specs.Building.{builtText, selectiveText, buildText, allCallText};
+ghost use Rattle.sayings.specs.Building.{builtText, selectiveText, buildText, allCallText};
 use crate::answers::put_refusal;
 use crate::answers::put_unread;
 use crate::values::is_long;

@@ -2,7 +2,7 @@
 ghost use Rattle.letters.specs.Put.{Put};
 ghost use Rattle.letters.specs.Line.{wordsOf};
 ghost use Rattle.fields.specs.Answers.{codeSaid};
-ghost use Rattle.commands.specs.Frames.{whoseText, codeText};
+ghost use Rattle.sayings.specs.Frames.{whoseText, codeText};
 use crate::answers::put_refusal;
 use crate::answers::put_unread;
 use crate::words::bytes_at;

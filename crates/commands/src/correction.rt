@@ -4,7 +4,7 @@ ghost use lib.ListN.{length, replicate};
 ghost use Rattle.letters.specs.Put.{Put};
 ghost use Rattle.letters.specs.Line.{wordsOf};
 ghost use Rattle.remainders.specs.Answers.{said};
-ghost use Rattle.commands.specs.Parity.{correctedText, fixedText, correctText};
+ghost use Rattle.sayings.specs.Parity.{correctedText, fixedText, correctText};
 use crate::answers::put_refusal;
 use crate::answers::put_unread;
 use crate::words::bytes_at;

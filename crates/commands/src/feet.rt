@@ -1,7 +1,7 @@
 // The line `feet AC`.
 ghost use Rattle.letters.specs.Put.{Put};
 ghost use Rattle.letters.specs.Line.{wordsOf};
-ghost use Rattle.commands.specs.Feet.{feetText};
+ghost use Rattle.sayings.specs.Feet.{feetText};
 use crate::answers::put_unread;
 use crate::words::number_at;
 use letters::Number;

@@ -1,4 +1,4 @@
-// The lines of the bench console that need no state, as their very bytes: each is one call of the library, and its answer in text.
+// The lines of the bench console that need no state, as their very bytes: each is one call of the library, and its answer in text. Their definitions stand in crate sayings.
 mod answers;
 mod building;
 mod code;

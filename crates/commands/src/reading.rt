@@ -2,8 +2,8 @@
 ghost use mathlib.Core.List.{_∷_, []};
 ghost use Rattle.letters.specs.Put.{Put};
 ghost use Rattle.letters.specs.Line.{wordsOf};
-ghost use Rattle.commands.specs.Texts.{doneText};
-ghost use Rattle.commands.specs.Frames.{fieldsText, interrogationText, replyText, upText, downText};
+ghost use Rattle.sayings.specs.Texts.{doneText};
+ghost use Rattle.sayings.specs.Frames.{fieldsText, interrogationText, replyText, upText, downText};
 use crate::answers::put_refusal;
 use crate::answers::put_unread;
 use crate::values::put_number;

@@ -1,7 +1,7 @@
 // The lines `remainder HEX` and `overlay NUMBER`.
 ghost use Rattle.letters.specs.Put.{Put};
 ghost use Rattle.letters.specs.Line.{wordsOf};
-ghost use Rattle.commands.specs.Parity.{remainderText, overlayText};
+ghost use Rattle.sayings.specs.Parity.{remainderText, overlayText};
 use crate::answers::put_reckoned;
 use crate::answers::put_unread;
 use crate::words::bytes_at;

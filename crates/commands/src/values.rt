@@ -3,8 +3,8 @@ ghost use mathlib.Core.Path.{_≡_};
 ghost use mathlib.Core.List.{_∷_, []};
 ghost use Rattle.letters.specs.Put.{Put};
 ghost use Rattle.fields.specs.Formats.{longFormat};
-ghost use Rattle.commands.specs.Texts.{doneText};
-ghost use Rattle.commands.specs.Frames.{numberText, endText, valuesText};
+ghost use Rattle.sayings.specs.Texts.{doneText};
+ghost use Rattle.sayings.specs.Frames.{numberText, endText, valuesText};
 
 // A number, with a space behind it.
 pub(crate) fn put_number(out: &mut [u8], at: usize, n: u32) -> usize

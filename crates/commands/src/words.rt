@@ -1,15 +1,14 @@
 // The words of a line where a number or bytes belong.
 ghost use mathlib.Core.Path.{_≡_};
 ghost use Rattle.letters.specs.Line.{wordsOf};
-ghost use Rattle.letters.specs.Number.{numberIn};
 ghost use Rattle.letters.specs.Hex.{HexRead};
-ghost use Rattle.commands.specs.Texts.{word};
+ghost use Rattle.sayings.specs.Texts.{numberAt, word};
 use letters::Hex;
 use letters::Number;
 
 // The k-th word as a number of at most ten digits.
 pub fn number_at(line: &[u8], k: usize) -> Number
-    ensures { λ r. ⌜ r ≡ numberIn 10 (word k (wordsOf (now (line .entry)))) ⌝ }
+    ensures { λ r. ⌜ r ≡ numberAt k (wordsOf (now (line .entry))) ⌝ }
 {
     let w = text::nth_word(line, k);
     let from = w.from;

@@ -1,7 +1,7 @@
 -- `put_number` lays the number, which has eight bits.
 use mathlib.Core.Path.{refl}
 use native.Mathlib.Omega.{arith}
-use Rattle.aircraft.proofs.Short.{refusal-fits}
+use Rattle.sayings.proofs.ShortAircraft.{refusal-fits}
 use borrow.Author.Needs.{needs}
 use Rattle.aircraft.proofs.answers.put_number.Statement.{statement}
 use Rattle.aircraft.proofs.answers.put_number.Tie as tie

@@ -1,6 +1,6 @@
 -- `put_unread` lays the text of a line that cannot be read.
 use mathlib.Core.Path.{refl}
-use Rattle.commands.proofs.Short.{unread-fits}
+use Rattle.sayings.proofs.Short.{unread-fits}
 use borrow.Author.Needs.{needs}
 use Rattle.aircraft.proofs.answers.put_unread.Statement.{statement}
 use Rattle.aircraft.proofs.answers.put_unread.Tie as tie

@@ -1,6 +1,6 @@
 -- `put_made` goes by the number of the making.
 use borrow.Author.Tests.{eq-eqb, ne-eqb}
-use Rattle.aircraft.specs.Lines.{madeSaid}
+use Rattle.sayings.specs.Aircraft.{madeSaid}
 use borrow.Author.Needs.{needs}
 use Rattle.aircraft.proofs.making.put_made.Statement.{statement}
 use Rattle.aircraft.proofs.making.put_made.Tie as tie

@@ -5,8 +5,8 @@ use mathlib.Core.List.{List}
 use Rattle.letters.specs.Line.{wordsOf}
 use Rattle.letters.specs.Number.{numberIn}
 use Rattle.letters.specs.declared.answer.Number.the-variants.{Is}
-use Rattle.commands.specs.Texts.{word, ofNumber}
-use Rattle.aircraft.specs.Lines.{madeSaid, modelSaid}
+use Rattle.sayings.specs.Texts.{word, ofNumber}
+use Rattle.sayings.specs.Aircraft.{madeSaid, modelSaid}
 use Rattle.aircraft.proofs.Texts.{showed-of}
 use borrow.Author.Needs.{needs}
 use Rattle.aircraft.proofs.making.put_model.Statement.{statement}

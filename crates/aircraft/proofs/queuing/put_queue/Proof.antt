@@ -1,9 +1,9 @@
 -- `put_queue` reads one word of bytes, and queues them.
 use mathlib.Core.Path.{refl, sym, ap}
 use Rattle.letters.specs.Line.{wordsOf}
-use Rattle.commands.specs.Texts.{word, ofBytes}
+use Rattle.sayings.specs.Texts.{word, ofBytes}
 use Rattle.commands.proofs.Texts.{Held, held, no-bytes}
-use Rattle.aircraft.specs.Lines.{queuedSaid, queueSaid}
+use Rattle.sayings.specs.Aircraft.{queuedSaid, queueSaid}
 use Rattle.aircraft.proofs.Texts.{showed-of, unmade-said, made-said}
 use borrow.Author.Needs.{needs}
 use Rattle.aircraft.proofs.queuing.put_queue.Statement.{statement}

@@ -1,5 +1,5 @@
 -- `put_queued` lays the number of the queuing.
-use Rattle.aircraft.specs.Lines.{queuedSaid}
+use Rattle.sayings.specs.Aircraft.{queuedSaid}
 use borrow.Author.Needs.{needs}
 use Rattle.aircraft.proofs.queuing.put_queued.Statement.{statement}
 use Rattle.aircraft.proofs.queuing.put_queued.Tie as tie

@@ -5,9 +5,9 @@ use mathlib.Core.List.{List}
 use Rattle.letters.specs.Line.{wordsOf}
 use Rattle.letters.specs.Number.{numberIn}
 use Rattle.letters.specs.declared.answer.Number.the-variants.{Is}
-use Rattle.commands.specs.Texts.{word, ofNumber, ofBytes}
+use Rattle.sayings.specs.Texts.{word, ofNumber, ofBytes}
 use Rattle.commands.proofs.Texts.{Held, held, no-bytes}
-use Rattle.aircraft.specs.Lines.{tookSaid, sendSaid}
+use Rattle.sayings.specs.Aircraft.{tookSaid, sendSaid}
 use Rattle.aircraft.proofs.Texts.{showed-of, unmade-said, made-said}
 use borrow.Author.Needs.{needs}
 use Rattle.aircraft.proofs.sending.put_send.Statement.{statement}

@@ -4,9 +4,9 @@ use native.Mathlib.Omega.{arith}
 use lib.ListN.{length, take, length-take}
 use borrow.Author.Tests.{eq-eqb, ne-eqb}
 use Rattle.letters.proofs.Laid.{put-then}
-use Rattle.commands.specs.Texts.{doneText, answerText}
-use Rattle.aircraft.specs.Lines.{tookSaid}
-use Rattle.aircraft.proofs.Short.{reply-fits}
+use Rattle.sayings.specs.Texts.{doneText, answerText}
+use Rattle.sayings.specs.Aircraft.{tookSaid}
+use Rattle.sayings.proofs.ShortAircraft.{sent-fits}
 use borrow.Author.Needs.{needs}
 use Rattle.aircraft.proofs.sending.put_took.Statement.{statement}
 use Rattle.aircraft.proofs.sending.put_took.Tie as tie
@@ -45,7 +45,7 @@ returns-2 c =
     (record {
       text-put = put-then (c .before .before .before .before .before .before .before .before .before .before .put-bytes .ensures) (put-then (c .before .before .before .before .before .before .put-reply .ensures) (c .before .before .put-byte .ensures));
       aircraft = refl;
-      short = reply-fits (take (k .length) (k .reply)) (simp length-take (omega arith));
+      short = sent-fits (take (k .length) (k .reply)) (simp length-take (omega arith));
     })
 
 pub put-took-spec : {M : Type 1} → statement M

@@ -1,7 +1,7 @@
 -- `put_holder` goes by who holds; an II has eight bits.
 use native.Mathlib.Omega.{arith}
 use Rattle.letters.proofs.Decimal.{decimal-length}
-use Rattle.aircraft.specs.Lines.{holderText}
+use Rattle.sayings.specs.Aircraft.{holderText}
 use borrow.Author.Needs.{needs}
 use Rattle.aircraft.proofs.showing.put_holder.Statement.{statement}
 use Rattle.aircraft.proofs.showing.put_holder.Tie as tie

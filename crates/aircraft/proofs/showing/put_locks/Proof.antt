@@ -5,7 +5,7 @@ use mathlib.Core.Path.{_≡_}
 use lib.ListN.{length, drop}
 use Rattle.lists.proofs.Front.{length-mapped}
 use Rattle.letters.proofs.Laid.{Still, put-inside, put-out, still-first, still-next, still-end}
-use Rattle.aircraft.specs.Lines.{locksText}
+use Rattle.sayings.specs.Aircraft.{locksText}
 use Rattle.aircraft.proofs.Texts.{locks-more, locks-none}
 use borrow.Author.Needs.{needs}
 use Rattle.aircraft.proofs.showing.put_locks.Statement.{statement}

@@ -1,6 +1,6 @@
 -- `put_state` shows an aircraft that was made.
 use mathlib.Core.Path.{refl, sym}
-use Rattle.aircraft.specs.Lines.{stateSaid}
+use Rattle.sayings.specs.Aircraft.{stateSaid}
 use Rattle.aircraft.proofs.Texts.{showed-of, unmade-said, made-said}
 use borrow.Author.Needs.{needs}
 use Rattle.aircraft.proofs.showing.put_state.Statement.{statement}

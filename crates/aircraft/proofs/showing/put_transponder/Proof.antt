@@ -6,9 +6,9 @@ use lib.ListN.{length}
 use Rattle.lists.proofs.Front.{length-mapped}
 use Rattle.letters.specs.Put.{decimal}
 use Rattle.letters.proofs.Laid.{put-of, put-then}
-use Rattle.commands.specs.Texts.{doneText}
-use Rattle.aircraft.specs.Lines.{stateText}
-use Rattle.aircraft.proofs.Short.{state-fits}
+use Rattle.sayings.specs.Texts.{doneText}
+use Rattle.sayings.specs.Aircraft.{stateText}
+use Rattle.sayings.proofs.ShortAircraft.{state-fits}
 use borrow.Author.Needs.{needs}
 use Rattle.aircraft.proofs.showing.put_transponder.Statement.{statement}
 use Rattle.aircraft.proofs.showing.put_transponder.Tie as tie

@@ -3,7 +3,7 @@ use mathlib.Core.Path.{ap}
 use Rattle.transponder.specs.declared.state.Made.{Made}
 use Rattle.transponder.specs.Calls.{makeRanged, making}
 use mathlib.Core.Bool.{false}
-use Rattle.aircraft.specs.Lines.{unmade}
+use Rattle.sayings.specs.Aircraft.{unmade}
 use borrow.Author.Needs.{needs}
 use Rattle.aircraft.proofs.state.none.Statement.{statement}
 use Rattle.aircraft.proofs.state.none.Tie as tie

@@ -1,7 +1,7 @@
 -- `put_call` goes by the call.
 use native.Mathlib.Omega.{arith}
-use Rattle.commands.proofs.Short.{unread-fits, remainder-fits, overlay-fits, correct-fits, build-fits, all-call-frame-fits, up-fits, down-fits, code-fits, feet-fits}
-use Rattle.calls.specs.Console.{callSaid}
+use Rattle.sayings.proofs.Short.{unread-fits, remainder-fits, overlay-fits, correct-fits, build-fits, all-call-frame-fits, up-fits, down-fits, code-fits, feet-fits}
+use Rattle.sayings.specs.Console.{callSaid}
 use Rattle.calls.proofs.Lines.{stays}
 use borrow.Author.Needs.{needs}
 use Rattle.calls.proofs.console.put_call.Statement.{statement}

@@ -1,7 +1,7 @@
 -- `put_command` finds the call, counts the words, and has the call answered.
 use borrow.Author.Tests.{eq-eqb, ne-eqb}
-use Rattle.calls.specs.Console.{commandSaid, countedSaid}
-use Rattle.commands.proofs.Short.{unread-fits}
+use Rattle.sayings.specs.Console.{commandSaid, countedSaid}
+use Rattle.sayings.proofs.Short.{unread-fits}
 use Rattle.calls.proofs.Lines.{stays}
 use borrow.Author.Needs.{needs}
 use Rattle.calls.proofs.console.put_command.Statement.{statement}

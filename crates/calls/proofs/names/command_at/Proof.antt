@@ -1,6 +1,6 @@
 -- `command_at` takes the k-th of the calls.
-use Rattle.calls.specs.Names.{table}
-use Rattle.calls.proofs.Table.{commands-are}
+use Rattle.sayings.specs.Names.{table}
+use Rattle.sayings.proofs.Table.{commands-are}
 use borrow.Author.Needs.{needs}
 use Rattle.calls.proofs.names.command_at.Statement.{statement}
 use Rattle.calls.proofs.names.command_at.Tie as tie

@@ -3,8 +3,8 @@ use Prim.Native.Nat.{_-_, _≤_}
 use native.Mathlib.Omega.{arith}
 use mathlib.Core.Path.{_≡_, refl, sym, _∙_}
 use lib.ListN.{drop}
-use Rattle.calls.specs.Names.{table, rowCount, commandIn, commandOf}
-use Rattle.calls.proofs.Table.{row-taken, row-passed, no-rows}
+use Rattle.sayings.specs.Names.{table, rowCount, commandIn, commandOf}
+use Rattle.sayings.proofs.Table.{row-taken, row-passed, no-rows}
 use borrow.Author.Needs.{needs}
 use Rattle.calls.proofs.names.find_command.Statement.{statement}
 use Rattle.calls.proofs.names.find_command.Tie as tie

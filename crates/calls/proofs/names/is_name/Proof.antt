@@ -2,8 +2,8 @@
 use mathlib.Core.Path.{ap, _∙_}
 use Rattle.letters.specs.Line.{sameAs}
 use Rattle.commands.proofs.Texts.{word-of}
-use Rattle.commands.specs.Texts.{word}
-use Rattle.calls.proofs.Table.{names-are}
+use Rattle.sayings.specs.Texts.{word}
+use Rattle.sayings.proofs.Table.{names-are}
 use borrow.Author.Needs.{needs}
 use Rattle.calls.proofs.names.is_name.Statement.{statement}
 use Rattle.calls.proofs.names.is_name.Tie as tie

@@ -1,5 +1,5 @@
 -- `words_for` goes by the call.
-use Rattle.calls.specs.Names.{wordsFor}
+use Rattle.sayings.specs.Names.{wordsFor}
 use borrow.Author.Needs.{needs}
 use Rattle.calls.proofs.names.words_for.Statement.{statement}
 use Rattle.calls.proofs.names.words_for.Tie as tie

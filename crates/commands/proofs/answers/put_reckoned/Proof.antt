@@ -1,6 +1,6 @@
 -- `put_reckoned` lays the number or its refusal, one case of the answer after the other.
-use Rattle.commands.specs.Texts.{answerText}
-use Rattle.commands.specs.Parity.{reckonedText}
+use Rattle.sayings.specs.Texts.{answerText}
+use Rattle.sayings.specs.Parity.{reckonedText}
 use borrow.Author.Needs.{needs}
 use Rattle.commands.proofs.answers.put_reckoned.Statement.{statement}
 use Rattle.commands.proofs.answers.put_reckoned.Tie as tie

@@ -1,6 +1,6 @@
 -- `put_refusal` lays the number and the line's end.
 use Rattle.letters.proofs.Laid.{put-then}
-use Rattle.commands.specs.Texts.{refusalText}
+use Rattle.sayings.specs.Texts.{refusalText}
 use borrow.Author.Needs.{needs}
 use Rattle.commands.proofs.answers.put_refusal.Statement.{statement}
 use Rattle.commands.proofs.answers.put_refusal.Tie as tie

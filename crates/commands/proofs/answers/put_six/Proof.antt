@@ -1,6 +1,6 @@
 -- `put_six` lays 0, six digits and the line's end.
 use Rattle.letters.proofs.Laid.{put-then}
-use Rattle.commands.specs.Texts.{doneText}
+use Rattle.sayings.specs.Texts.{doneText}
 use borrow.Author.Needs.{needs}
 use Rattle.commands.proofs.answers.put_six.Statement.{statement}
 use Rattle.commands.proofs.answers.put_six.Tie as tie

@@ -6,8 +6,8 @@ use Rattle.letters.specs.Line.{wordsOf}
 use Rattle.letters.specs.Number.{numberIn}
 use Rattle.letters.specs.declared.answer.Number.the-variants.{Is}
 use Rattle.letters.proofs.Laid.{put-of}
-use Rattle.commands.specs.Texts.{word, ofNumber}
-use Rattle.commands.specs.Building.{builtText, allCallText}
+use Rattle.sayings.specs.Texts.{word, ofNumber}
+use Rattle.sayings.specs.Building.{builtText, allCallText}
 use borrow.Author.Needs.{needs}
 use Rattle.commands.proofs.building.put_all_call_frame.Statement.{statement}
 use Rattle.commands.proofs.building.put_all_call_frame.Tie as tie

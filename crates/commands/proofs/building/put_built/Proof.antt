@@ -1,7 +1,7 @@
 -- `put_built` lays the frame, or the refusal, one case of the answer after the other.
 use Rattle.letters.proofs.Laid.{put-then}
-use Rattle.commands.specs.Texts.{doneText, answerText}
-use Rattle.commands.specs.Building.{builtText}
+use Rattle.sayings.specs.Texts.{doneText, answerText}
+use Rattle.sayings.specs.Building.{builtText}
 use borrow.Author.Needs.{needs}
 use Rattle.commands.proofs.building.put_built.Statement.{statement}
 use Rattle.commands.proofs.building.put_built.Tie as tie

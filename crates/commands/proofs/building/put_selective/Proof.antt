@@ -1,7 +1,7 @@
 -- `put_selective` lends 14 zeros to a long format and 7 to another, and lays what the builder answers.
 use mathlib.Core.Path.{sym, ap, _∙_}
 use Rattle.letters.proofs.Laid.{put-of}
-use Rattle.commands.specs.Building.{builtText, selectiveText}
+use Rattle.sayings.specs.Building.{builtText, selectiveText}
 use borrow.Author.Needs.{needs}
 use Rattle.commands.proofs.building.put_selective.Statement.{statement}
 use Rattle.commands.proofs.building.put_selective.Tie as tie

@@ -6,8 +6,8 @@ use Rattle.letters.specs.Line.{wordsOf}
 use Rattle.letters.specs.Number.{numberIn}
 use Rattle.letters.specs.declared.answer.Number.the-variants.{Is}
 use Rattle.letters.proofs.Laid.{put-of}
-use Rattle.commands.specs.Texts.{word, ofBytes, ofNumber}
-use Rattle.commands.specs.Frames.{whoseText, codeText}
+use Rattle.sayings.specs.Texts.{word, ofBytes, ofNumber}
+use Rattle.sayings.specs.Frames.{whoseText, codeText}
 use Rattle.commands.proofs.Texts.{Held, held, no-bytes}
 use borrow.Author.Needs.{needs}
 use Rattle.commands.proofs.code.put_code.Statement.{statement}

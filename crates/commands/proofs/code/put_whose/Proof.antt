@@ -1,7 +1,7 @@
 -- `put_whose` lays the word or the refusal, one case of the answer after the other.
 use Rattle.letters.specs.Line.{sameAs}
-use Rattle.commands.specs.Texts.{answerText, doneText}
-use Rattle.commands.specs.Frames.{codeWord, whoseText}
+use Rattle.sayings.specs.Texts.{answerText, doneText}
+use Rattle.sayings.specs.Frames.{codeWord, whoseText}
 use borrow.Author.Needs.{needs}
 use Rattle.commands.proofs.code.put_whose.Statement.{statement}
 use Rattle.commands.proofs.code.put_whose.Tie as tie

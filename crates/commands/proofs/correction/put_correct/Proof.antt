@@ -5,8 +5,8 @@ use mathlib.Core.List.{List}
 use Rattle.letters.specs.Line.{wordsOf}
 use Rattle.letters.specs.Number.{numberIn}
 use Rattle.letters.specs.declared.answer.Number.the-variants.{Is}
-use Rattle.commands.specs.Texts.{word, ofBytes, ofNumber}
-use Rattle.commands.specs.Parity.{correctText}
+use Rattle.sayings.specs.Texts.{word, ofBytes, ofNumber}
+use Rattle.sayings.specs.Parity.{correctText}
 use Rattle.commands.proofs.Texts.{Held, held, no-bytes, zeros, zeros-count}
 use borrow.Author.Needs.{needs}
 use Rattle.commands.proofs.correction.put_correct.Statement.{statement}

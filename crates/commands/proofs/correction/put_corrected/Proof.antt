@@ -1,7 +1,7 @@
 -- `put_corrected` lays the message and its flips, or the refusal, one case of the answer after the other.
 use Rattle.letters.proofs.Laid.{put-then}
-use Rattle.commands.specs.Texts.{doneText, answerText}
-use Rattle.commands.specs.Parity.{correctedText}
+use Rattle.sayings.specs.Texts.{doneText, answerText}
+use Rattle.sayings.specs.Parity.{correctedText}
 use borrow.Author.Needs.{needs}
 use Rattle.commands.proofs.correction.put_corrected.Statement.{statement}
 use Rattle.commands.proofs.correction.put_corrected.Tie as tie

@@ -2,7 +2,7 @@
 use mathlib.Core.Path.{ap, _∙_}
 use Rattle.letters.proofs.Laid.{put-of}
 use Rattle.remainders.specs.Correction.{correction}
-use Rattle.commands.specs.Parity.{correctedText, fixedText}
+use Rattle.sayings.specs.Parity.{correctedText, fixedText}
 use borrow.Author.Needs.{needs}
 use Rattle.commands.proofs.correction.put_fixed.Statement.{statement}
 use Rattle.commands.proofs.correction.put_fixed.Tie as tie

@@ -1,6 +1,6 @@
 -- `put_feet` reads one number, and lays the answer for it.
-use Rattle.commands.specs.Texts.{ofNumber}
-use Rattle.commands.specs.Feet.{feetText}
+use Rattle.sayings.specs.Texts.{ofNumber}
+use Rattle.sayings.specs.Feet.{feetText}
 use borrow.Author.Needs.{needs}
 use Rattle.commands.proofs.feet.put_feet.Statement.{statement}
 use Rattle.commands.proofs.feet.put_feet.Tie as tie

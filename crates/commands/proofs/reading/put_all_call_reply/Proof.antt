@@ -1,8 +1,8 @@
 -- `put_all_call_reply` lays 0, 11, two numbers and the remainder.
 use Rattle.letters.proofs.Laid.{put-then}
 use Rattle.letters.specs.Put.{decimal, decimalIn}
-use Rattle.commands.specs.Texts.{doneText}
-use Rattle.commands.specs.Frames.{numberText, fieldsText}
+use Rattle.sayings.specs.Texts.{doneText}
+use Rattle.sayings.specs.Frames.{numberText, fieldsText}
 use borrow.Author.Needs.{needs}
 use Rattle.commands.proofs.reading.put_all_call_reply.Statement.{statement}
 use Rattle.commands.proofs.reading.put_all_call_reply.Tie as tie

@@ -1,8 +1,8 @@
 -- `put_interrogation` lays the values or the refusal, one case of the answer after the other.
 use mathlib.Core.Path.{refl}
 use Rattle.letters.proofs.Laid.{put-of}
-use Rattle.commands.specs.Texts.{answerText}
-use Rattle.commands.specs.Frames.{numbersText, valuesText, readText}
+use Rattle.sayings.specs.Texts.{answerText}
+use Rattle.sayings.specs.Frames.{numbersText, valuesText, readText}
 use Rattle.commands.proofs.Frames.{as-interrogation}
 use borrow.Author.Needs.{needs}
 use Rattle.commands.proofs.reading.put_interrogation.Statement.{statement}

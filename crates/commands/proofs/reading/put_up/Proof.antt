@@ -1,8 +1,8 @@
 -- `put_up` reads one word of bytes, and lays what they are as an interrogation.
 use mathlib.Core.Path.{refl}
 use Rattle.letters.specs.Line.{wordsOf}
-use Rattle.commands.specs.Texts.{word, ofBytes}
-use Rattle.commands.specs.Frames.{upText}
+use Rattle.sayings.specs.Texts.{word, ofBytes}
+use Rattle.sayings.specs.Frames.{upText}
 use Rattle.commands.proofs.Texts.{Held, held, no-bytes}
 use borrow.Author.Needs.{needs}
 use Rattle.commands.proofs.reading.put_up.Statement.{statement}

@@ -1,8 +1,8 @@
 -- `put_overlay` reads one number, and lays the answer for it.
 use mathlib.Core.Path.{ap}
 use Rattle.letters.proofs.Laid.{put-of}
-use Rattle.commands.specs.Texts.{ofNumber}
-use Rattle.commands.specs.Parity.{overlayText, reckonedText}
+use Rattle.sayings.specs.Texts.{ofNumber}
+use Rattle.sayings.specs.Parity.{overlayText, reckonedText}
 use borrow.Author.Needs.{needs}
 use Rattle.commands.proofs.reckoning.put_overlay.Statement.{statement}
 use Rattle.commands.proofs.reckoning.put_overlay.Tie as tie

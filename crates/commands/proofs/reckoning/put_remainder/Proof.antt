@@ -2,8 +2,8 @@
 use mathlib.Core.Path.{refl, ap}
 use Rattle.letters.specs.Line.{wordsOf}
 use Rattle.letters.proofs.Laid.{put-of}
-use Rattle.commands.specs.Texts.{word, ofBytes}
-use Rattle.commands.specs.Parity.{remainderText, reckonedText}
+use Rattle.sayings.specs.Texts.{word, ofBytes}
+use Rattle.sayings.specs.Parity.{remainderText, reckonedText}
 use Rattle.commands.proofs.Texts.{Held, held, no-bytes}
 use borrow.Author.Needs.{needs}
 use Rattle.commands.proofs.reckoning.put_remainder.Statement.{statement}

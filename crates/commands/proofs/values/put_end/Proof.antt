@@ -2,7 +2,7 @@
 use mathlib.Core.Path.{sym, _∙_}
 use borrow.Author.Tests.{not-true, not-false}
 use Rattle.letters.proofs.Laid.{put-then}
-use Rattle.commands.specs.Frames.{endText}
+use Rattle.sayings.specs.Frames.{endText}
 use borrow.Author.Needs.{needs}
 use Rattle.commands.proofs.values.put_end.Statement.{statement}
 use Rattle.commands.proofs.values.put_end.Tie as tie

@@ -1,6 +1,6 @@
 -- `put_number` lays the number and a space.
 use Rattle.letters.proofs.Laid.{put-then}
-use Rattle.commands.specs.Frames.{numberText}
+use Rattle.sayings.specs.Frames.{numberText}
 use borrow.Author.Needs.{needs}
 use Rattle.commands.proofs.values.put_number.Statement.{statement}
 use Rattle.commands.proofs.values.put_number.Tie as tie

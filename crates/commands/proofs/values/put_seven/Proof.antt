@@ -1,7 +1,7 @@
 -- `put_seven` lays 0, five numbers and what ends the line.
 use Rattle.letters.proofs.Laid.{put-then}
-use Rattle.commands.specs.Texts.{doneText}
-use Rattle.commands.specs.Frames.{numbersText, valuesText}
+use Rattle.sayings.specs.Texts.{doneText}
+use Rattle.sayings.specs.Frames.{numbersText, valuesText}
 use borrow.Author.Needs.{needs}
 use Rattle.commands.proofs.values.put_seven.Statement.{statement}
 use Rattle.commands.proofs.values.put_seven.Tie as tie

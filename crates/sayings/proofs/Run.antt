@@ -7,10 +7,10 @@ use lib.ListN.{length, take, drop}
 use Rattle.letters.specs.Line.{lineAt, lineEnd, linesOf}
 use Rattle.letters.proofs.Lines.{lines-next, lines-end}
 use Rattle.letters.proofs.Run as run
-use Rattle.aircraft.specs.declared.state.Aircraft.{Aircraft}
-use Rattle.aircraft.specs.Lines.{unmade}
-use Rattle.calls.specs.declared.console.Answer.{Answer}
-use Rattle.calls.specs.Console.{Answered, lineText, linesText, consoleText}
+use Rattle.sayings.specs.declared.state.Aircraft.{Aircraft}
+use Rattle.sayings.specs.Aircraft.{unmade}
+use Rattle.sayings.specs.declared.console.Answer.{Answer}
+use Rattle.sayings.specs.Console.{Answered, lineText, linesText, consoleText}
 
 module _ {a : Aircraft} {s : List ℕ} {at : ℕ} {before after : List ℕ} {r : Answer} (t : Answered a s at before after r) where
   -- with 512 bytes lent, what the call leaves at the buffer's front is the whole text of the line

@@ -7,6 +7,8 @@ use lib.ListN.{getD}
 use Rattle.lists.specs.Lists.{pick}
 use Rattle.letters.specs.Put.{decimal}
 use Rattle.letters.specs.Plain.{plain}
+use Rattle.letters.specs.Number.{numberIn}
+use Rattle.letters.specs.Hex.{bytesIn}
 use Rattle.letters.specs.declared.answer.Number.{Number}
 use Rattle.letters.specs.declared.answer.Number.the-variants.{Is, Not}
 
@@ -19,6 +21,14 @@ unread = plain "?\n"
 -- the k-th word, from 0; the empty one where there is none
 unfoldable pub word : ℕ → List (List ℕ) → List ℕ
 word k ws = getD ws k []
+
+-- the number that the k-th word says, of at most ten digits
+abbrev pub numberAt : ℕ → List (List ℕ) → Number
+numberAt k ws = numberIn 10 (word k ws)
+
+-- the bytes that the k-th word says
+abbrev pub bytesAt : ℕ → List (List ℕ) → Option (List ℕ)
+bytesAt k ws = bytesIn (word k ws)
 
 -- what is made of the number that a word says, or what stands for a word that is none
 unfoldable pub ofNumber : {A : Type 0} → A → Number → (ℕ → A) → A

@@ -4,13 +4,12 @@ use mathlib.Core.List.{List, _++_}
 use lib.ListN.{length, replicate}
 use Rattle.letters.specs.Put.{decimal}
 use Rattle.letters.specs.Plain.{plain}
-use Rattle.letters.specs.Number.{numberIn}
-use Rattle.letters.specs.Hex.{hexIn, hexOf, bytesIn}
+use Rattle.letters.specs.Hex.{hexIn, hexOf}
 use Rattle.remainders.specs.Answers.{Answer, Outcome}
 use Rattle.remainders.specs.Division.{remainderAnswer}
 use Rattle.remainders.specs.Overlays.{uplinkOverlay}
 use Rattle.remainders.specs.Correction.{correction}
-use Rattle.commands.specs.Texts.{word, withNumber, withBytes, answerText}
+use Rattle.sayings.specs.Texts.{numberAt, bytesAt, withNumber, withBytes, answerText}
 
 -- a remainder or an overlay has six digits
 unfoldable pub reckonedText : Answer → List ℕ
@@ -21,10 +20,10 @@ unfoldable pub correctedText : Outcome → List ℕ
 correctedText o = answerText (o .number) (hexOf (o .output) ++ (plain " " ++ decimal (o .flips)))
 
 unfoldable pub remainderText : List (List ℕ) → List ℕ
-remainderText ws = withBytes (bytesIn (word 1 ws)) (λ msg. reckonedText (remainderAnswer msg))
+remainderText ws = withBytes (bytesAt 1 ws) (λ msg. reckonedText (remainderAnswer msg))
 
 unfoldable pub overlayText : List (List ℕ) → List ℕ
-overlayText ws = withNumber (numberIn 10 (word 1 ws)) (λ address. reckonedText (uplinkOverlay address))
+overlayText ws = withNumber (numberAt 1 ws) (λ address. reckonedText (uplinkOverlay address))
 
 -- a correction whose output buffer is lent as long as the message
 unfoldable pub fixedText : List ℕ → List ℕ → ℕ → ℕ → List ℕ
@@ -32,8 +31,8 @@ fixedText msg marks overlay limit = correctedText (correction msg marks overlay 
 
 unfoldable pub correctText : List (List ℕ) → List ℕ
 correctText ws =
-    withBytes (bytesIn (word 1 ws)) (λ msg.
-    withBytes (bytesIn (word 2 ws)) (λ marks.
-    withNumber (numberIn 10 (word 3 ws)) (λ overlay.
-    withNumber (numberIn 10 (word 4 ws)) (λ limit.
+    withBytes (bytesAt 1 ws) (λ msg.
+    withBytes (bytesAt 2 ws) (λ marks.
+    withNumber (numberAt 3 ws) (λ overlay.
+    withNumber (numberAt 4 ws) (λ limit.
     fixedText msg marks overlay limit))))

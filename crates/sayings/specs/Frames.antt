@@ -6,14 +6,13 @@ use lib.ListN.{length, getD, take}
 use Rattle.lists.specs.Lists.{pick}
 use Rattle.letters.specs.Put.{decimal}
 use Rattle.letters.specs.Plain.{plain}
-use Rattle.letters.specs.Hex.{hexIn, hexOf, bytesIn}
+use Rattle.letters.specs.Hex.{hexIn, hexOf}
 use Rattle.letters.specs.Line.{sameAs}
-use Rattle.letters.specs.Number.{numberIn}
 use Rattle.fields.specs.Answers.{Answer, own, matchingII}
 use Rattle.fields.specs.Formats.{longFormat}
 use Rattle.fields.specs.Reading.{readUp, readDown, mbPart}
 use Rattle.fields.specs.Codes.{codeOf}
-use Rattle.commands.specs.Texts.{word, withNumber, withBytes, answerText}
+use Rattle.sayings.specs.Texts.{numberAt, bytesAt, withNumber, withBytes, answerText}
 
 -- ---- a frame that is read
 
@@ -54,10 +53,10 @@ unfoldable pub interrogationText : List ℕ → List ℕ
 interrogationText msg = readText (readUp msg) (mbPart msg)
 
 unfoldable pub upText : List (List ℕ) → List ℕ
-upText ws = withBytes (bytesIn (word 1 ws)) interrogationText
+upText ws = withBytes (bytesAt 1 ws) interrogationText
 
 unfoldable pub downText : List (List ℕ) → List ℕ
-downText ws = withBytes (bytesIn (word 1 ws)) replyText
+downText ws = withBytes (bytesAt 1 ws) replyText
 
 -- ---- whose code a reply carries
 
@@ -70,8 +69,8 @@ whoseText a = answerText (a .number) (codeWord (a .values))
 
 unfoldable pub codeText : List (List ℕ) → List ℕ
 codeText ws =
-    withBytes (bytesIn (word 1 ws)) (λ msg.
-    withNumber (numberIn 10 (word 2 ws)) (λ cl.
-    withNumber (numberIn 10 (word 3 ws)) (λ ic.
-    withNumber (numberIn 10 (word 4 ws)) (λ permit.
+    withBytes (bytesAt 1 ws) (λ msg.
+    withNumber (numberAt 2 ws) (λ cl.
+    withNumber (numberAt 3 ws) (λ ic.
+    withNumber (numberAt 4 ws) (λ permit.
     whoseText (codeOf msg cl ic permit)))))

@@ -6,8 +6,8 @@ use lib.ListN.{getD}
 use Rattle.lists.specs.Lists.{pick}
 use Rattle.letters.specs.Line.{sameAs}
 use Rattle.letters.specs.Plain.{plain}
-use Rattle.calls.specs.declared.names.Command.{Command}
-use Rattle.calls.specs.declared.names.Command.the-variants.{Remainder, Overlay, Correct, Build, AllCall, Up, Down, Code, Feet, Model, Queue, Send, State, Help, Unknown}
+use Rattle.sayings.specs.declared.names.Command.{Command}
+use Rattle.sayings.specs.declared.names.Command.the-variants.{Remainder, Overlay, Correct, Build, AllCall, Up, Down, Code, Feet, Model, Queue, Send, State, Help, Unknown}
 
 -- a call and its name
 pub record Named : Type 0 where

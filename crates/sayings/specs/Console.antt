@@ -8,18 +8,18 @@ use lib.ListN.{length}
 use Rattle.lists.specs.Lists.{pick}
 use Rattle.letters.specs.Line.{lineAt, linesOf, wordsOf}
 use Rattle.letters.specs.Run.{TookLine}
-use Rattle.commands.specs.Texts.{word, unread}
-use Rattle.commands.specs.Parity.{remainderText, overlayText, correctText}
-use Rattle.commands.specs.Building.{buildText, allCallText}
-use Rattle.commands.specs.Frames.{upText, downText, codeText}
-use Rattle.commands.specs.Feet.{feetText}
-use Rattle.aircraft.specs.declared.state.Aircraft.{Aircraft}
-use Rattle.aircraft.specs.Lines.{Said, saying, unmade, modelSaid, queueSaid, sendSaid, stateSaid}
-use Rattle.calls.specs.declared.console.Answer.{Answer}
-use Rattle.calls.specs.declared.names.Command.{Command}
-use Rattle.calls.specs.declared.names.Command.the-variants.{Remainder, Overlay, Correct, Build, AllCall, Up, Down, Code, Feet, Model, Queue, Send, State, Help, Unknown}
-use Rattle.calls.specs.Names.{commandOf, wordsFor}
-use Rattle.calls.specs.Help.{helpText}
+use Rattle.sayings.specs.Texts.{word, unread}
+use Rattle.sayings.specs.Parity.{remainderText, overlayText, correctText}
+use Rattle.sayings.specs.Building.{buildText, allCallText}
+use Rattle.sayings.specs.Frames.{upText, downText, codeText}
+use Rattle.sayings.specs.Feet.{feetText}
+use Rattle.sayings.specs.declared.state.Aircraft.{Aircraft}
+use Rattle.sayings.specs.Aircraft.{Said, saying, unmade, modelSaid, queueSaid, sendSaid, stateSaid}
+use Rattle.sayings.specs.declared.console.Answer.{Answer}
+use Rattle.sayings.specs.declared.names.Command.{Command}
+use Rattle.sayings.specs.declared.names.Command.the-variants.{Remainder, Overlay, Correct, Build, AllCall, Up, Down, Code, Feet, Model, Queue, Send, State, Help, Unknown}
+use Rattle.sayings.specs.Names.{commandOf, wordsFor}
+use Rattle.sayings.specs.Help.{helpText}
 
 -- what a call says for the aircraft and the words of its line; an unknown one cannot be read
 unfoldable pub callSaid : Command → Aircraft → List (List ℕ) → Said

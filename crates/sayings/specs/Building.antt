@@ -2,12 +2,11 @@
 use Prim.Native.Nat.{ℕ}
 use mathlib.Core.List.{List}
 use lib.ListN.{replicate}
-use Rattle.letters.specs.Number.{numberIn}
-use Rattle.letters.specs.Hex.{hexOf, bytesIn}
+use Rattle.letters.specs.Hex.{hexOf}
 use Rattle.fields.specs.Answers.{Outcome}
 use Rattle.fields.specs.Formats.{lengthOf}
 use Rattle.fields.specs.Building.{building, allCalling}
-use Rattle.commands.specs.Texts.{word, withNumber, withBytes, answerText}
+use Rattle.sayings.specs.Texts.{numberAt, bytesAt, withNumber, withBytes, answerText}
 
 -- the frame that was built
 unfoldable pub builtText : Outcome → List ℕ
@@ -19,19 +18,19 @@ selectiveText uf pc rr di sd ma address = builtText (building uf pc rr di sd ma 
 
 unfoldable pub buildText : List (List ℕ) → List ℕ
 buildText ws =
-    withNumber (numberIn 10 (word 1 ws)) (λ uf.
-    withNumber (numberIn 10 (word 2 ws)) (λ pc.
-    withNumber (numberIn 10 (word 3 ws)) (λ rr.
-    withNumber (numberIn 10 (word 4 ws)) (λ di.
-    withNumber (numberIn 10 (word 5 ws)) (λ sd.
-    withBytes (bytesIn (word 6 ws)) (λ ma.
-    withNumber (numberIn 10 (word 7 ws)) (λ address.
+    withNumber (numberAt 1 ws) (λ uf.
+    withNumber (numberAt 2 ws) (λ pc.
+    withNumber (numberAt 3 ws) (λ rr.
+    withNumber (numberAt 4 ws) (λ di.
+    withNumber (numberAt 5 ws) (λ sd.
+    withBytes (bytesAt 6 ws) (λ ma.
+    withNumber (numberAt 7 ws) (λ address.
     selectiveText uf pc rr di sd ma address)))))))
 
 -- UF 11, whose output buffer is lent as long as the message
 unfoldable pub allCallText : List (List ℕ) → List ℕ
 allCallText ws =
-    withNumber (numberIn 10 (word 1 ws)) (λ pr.
-    withNumber (numberIn 10 (word 2 ws)) (λ ic.
-    withNumber (numberIn 10 (word 3 ws)) (λ cl.
+    withNumber (numberAt 1 ws) (λ pr.
+    withNumber (numberAt 2 ws) (λ ic.
+    withNumber (numberAt 3 ws) (λ cl.
     builtText (allCalling pr ic cl (replicate 7 0)))))

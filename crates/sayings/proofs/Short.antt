@@ -11,7 +11,6 @@ use Rattle.lists.specs.Lists.{pick}
 use Rattle.letters.specs.Put.{decimal}
 use Rattle.letters.specs.Plain.{plain}
 use Rattle.letters.specs.Line.{sameAs}
-use Rattle.letters.specs.Number.{numberIn}
 use Rattle.letters.specs.Hex.{hexIn, hexOf, bytesIn}
 use Rattle.letters.specs.declared.answer.Number.{Number}
 use Rattle.letters.specs.declared.answer.Number.the-variants.{Is, Not}
@@ -34,11 +33,11 @@ use Rattle.fields.specs.Frames.{front, sealed, framed}
 use Rattle.fields.specs.Building.{selectiveRanged, allCallRanged, selective, allCall, building, allCalling}
 use Rattle.fields.specs.Codes.{stationRanged, whose, codeOf}
 use Rattle.fields.specs.Reading.{formatOf, readAs, allCallRead, selectiveRead, allCallReplyRead, surveillanceRead, mbPart}
-use Rattle.commands.specs.Texts.{unread, word, ofNumber, ofBytes, withNumber, withBytes, doneText, refusalText, answerText}
-use Rattle.commands.specs.Parity.{reckonedText, correctedText, remainderText, overlayText, fixedText, correctText}
-use Rattle.commands.specs.Building.{builtText, selectiveText, buildText, allCallText}
-use Rattle.commands.specs.Frames.{numberText, numbersText, fieldsText, endText, valuesText, readText, interrogationText, replyText, upText, downText, codeWord, whoseText, codeText}
-use Rattle.commands.specs.Feet.{feetText}
+use Rattle.sayings.specs.Texts.{unread, word, numberAt, ofNumber, ofBytes, withNumber, withBytes, doneText, refusalText, answerText}
+use Rattle.sayings.specs.Parity.{reckonedText, correctedText, remainderText, overlayText, fixedText, correctText}
+use Rattle.sayings.specs.Building.{builtText, selectiveText, buildText, allCallText}
+use Rattle.sayings.specs.Frames.{numberText, numbersText, fieldsText, endText, valuesText, readText, interrogationText, replyText, upText, downText, codeWord, whoseText, codeText}
+use Rattle.sayings.specs.Feet.{feetText}
 
 -- the size of the buffer that the program lends
 abbrev pub room : ℕ
@@ -224,7 +223,7 @@ module _ (ws : List (List ℕ)) where
   pub overlay-fits : length (overlayText ws) ≤ room
   unfolding overlayText
   overlay-fits =
-      with-number-fits (numberIn 10 (word 1 ws)) (λ address. reckonedText (uplinkOverlay address))
+      with-number-fits (numberAt 1 ws) (λ address. reckonedText (uplinkOverlay address))
       (λ address. reckoned-fits (ltb address 0x1000000) (overlayOf address) 2 (omega arith))
 
   pub correct-fits : length (correctText ws) ≤ room
@@ -232,26 +231,26 @@ module _ (ws : List (List ℕ)) where
   correct-fits =
       with-bytes-fits (word 1 ws) _ (λ msg h.
       with-bytes-fits (word 2 ws) _ (λ marks k.
-      with-number-fits (numberIn 10 (word 3 ws)) _ (λ overlay.
-      with-number-fits (numberIn 10 (word 4 ws)) _ (λ limit. fixed-fits msg marks overlay limit h))))
+      with-number-fits (numberAt 3 ws) _ (λ overlay.
+      with-number-fits (numberAt 4 ws) _ (λ limit. fixed-fits msg marks overlay limit h))))
 
   pub build-fits : length (buildText ws) ≤ room
   unfolding buildText
   build-fits =
-      with-number-fits (numberIn 10 (word 1 ws)) _ (λ uf.
-      with-number-fits (numberIn 10 (word 2 ws)) _ (λ pc.
-      with-number-fits (numberIn 10 (word 3 ws)) _ (λ rr.
-      with-number-fits (numberIn 10 (word 4 ws)) _ (λ di.
-      with-number-fits (numberIn 10 (word 5 ws)) _ (λ sd.
+      with-number-fits (numberAt 1 ws) _ (λ uf.
+      with-number-fits (numberAt 2 ws) _ (λ pc.
+      with-number-fits (numberAt 3 ws) _ (λ rr.
+      with-number-fits (numberAt 4 ws) _ (λ di.
+      with-number-fits (numberAt 5 ws) _ (λ sd.
       with-bytes-fits (word 6 ws) _ (λ ma h.
-      with-number-fits (numberIn 10 (word 7 ws)) _ (λ address. selective-fits uf pc rr di sd ma address)))))))
+      with-number-fits (numberAt 7 ws) _ (λ address. selective-fits uf pc rr di sd ma address)))))))
 
   pub all-call-frame-fits : length (allCallText ws) ≤ room
   unfolding allCallText
   all-call-frame-fits =
-      with-number-fits (numberIn 10 (word 1 ws)) _ (λ pr.
-      with-number-fits (numberIn 10 (word 2 ws)) _ (λ ic.
-      with-number-fits (numberIn 10 (word 3 ws)) _ (λ cl. all-call-fits pr ic cl)))
+      with-number-fits (numberAt 1 ws) _ (λ pr.
+      with-number-fits (numberAt 2 ws) _ (λ ic.
+      with-number-fits (numberAt 3 ws) _ (λ cl. all-call-fits pr ic cl)))
 
   pub up-fits : length (upText ws) ≤ room
   unfolding upText
@@ -265,11 +264,11 @@ module _ (ws : List (List ℕ)) where
   unfolding codeText
   code-fits =
       with-bytes-fits (word 1 ws) _ (λ msg h.
-      with-number-fits (numberIn 10 (word 2 ws)) _ (λ cl.
-      with-number-fits (numberIn 10 (word 3 ws)) _ (λ ic.
-      with-number-fits (numberIn 10 (word 4 ws)) _ (λ permit. whose-fits msg cl ic permit))))
+      with-number-fits (numberAt 2 ws) _ (λ cl.
+      with-number-fits (numberAt 3 ws) _ (λ ic.
+      with-number-fits (numberAt 4 ws) _ (λ permit. whose-fits msg cl ic permit))))
 
   pub feet-fits : length (feetText ws) ≤ room
   unfolding feetText
   feet-fits =
-      with-number-fits (numberIn 10 (word 1 ws)) (λ ac. feet-lines.answerText (altitude ac)) (λ ac. omega (arith, answer-short ac))
+      with-number-fits (numberAt 1 ws) (λ ac. feet-lines.answerText (altitude ac)) (λ ac. omega (arith, answer-short ac))

@@ -11,28 +11,28 @@ use Rattle.letters.specs.Put.{decimal}
 use Rattle.letters.specs.Plain.{plain}
 use Rattle.letters.proofs.Decimal.{decimal-length, decimal-fits}
 use Rattle.letters.proofs.HexMade.{hex-of-length}
-use Rattle.commands.specs.Texts.{doneText, refusalText}
+use Rattle.sayings.specs.Texts.{doneText, refusalText}
 use Rattle.transponder.specs.declared.state.Lock.{Lock}
 use Rattle.transponder.specs.declared.state.Timer.{Timer}
 use Rattle.transponder.specs.declared.state.Transponder.{Transponder}
 use Rattle.transponder.specs.Lockout.{locks}
 use Rattle.transponder.specs.State.{waiting}
-use Rattle.aircraft.specs.Lines.{replyText, holderText, codeText, lockText, locksText, stateText}
+use Rattle.sayings.specs.Aircraft.{sentText, holderText, timerText, lockText, locksText, stateText}
 
 pub refusal-fits : (n : ℕ) → n < 256 → length (refusalText n) ≤ 512
 unfolding refusalText
 refusal-fits n h = simp length-append (omega (arith, decimal-length 2 n (omega arith)))
 
-pub reply-fits : (l : List ℕ) → length l ≤ 14 → length (doneText (replyText l)) ≤ 512
-unfolding doneText replyText
-reply-fits [] h = omega arith
-reply-fits (b ∷ l) h = simp length-append (omega (arith, hex-of-length (b ∷ l)))
+pub sent-fits : (l : List ℕ) → length l ≤ 14 → length (doneText (sentText l)) ≤ 512
+unfolding doneText sentText
+sent-fits [] h = omega arith
+sent-fits (b ∷ l) h = simp length-append (omega (arith, hex-of-length (b ∷ l)))
 
 -- ---- the locked codes: five bytes each at most
 
-code-fits : (k : ℕ) → k < 79 → length (codeText k) ≤ 5
-unfolding codeText
-code-fits k h = go (ltb k 16)
+timer-fits : (k : ℕ) → k < 79 → length (timerText k) ≤ 5
+unfolding timerText
+timer-fits k h = go (ltb k 16)
   where
     go : (t : Bool) → length (pick t (plain " II" ++ decimal k) (plain " SI" ++ decimal (k - 15))) ≤ 5
     go true = simp length-append (omega (arith, decimal-length 1 k (omega arith)))
@@ -42,8 +42,8 @@ lock-fits : (k : ℕ) (l : Lock) → k < 79 → length (lockText k l) ≤ 5
 unfolding lockText
 lock-fits k l h = go (locks l)
   where
-    go : (t : Bool) → length (pick t (codeText k) []) ≤ 5
-    go true = code-fits k h
+    go : (t : Bool) → length (pick t (timerText k) []) ≤ 5
+    go true = timer-fits k h
     go false = omega arith
 
 locks-fit : (k : ℕ) (ts : List Timer) → k + length ts ≤ 79 → length (locksText k ts) ≤ 5 * length ts

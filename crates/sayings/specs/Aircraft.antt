@@ -9,10 +9,9 @@ use lib.ListN.{length, take}
 use Rattle.lists.specs.Lists.{pick}
 use Rattle.letters.specs.Put.{Put, decimal}
 use Rattle.letters.specs.Plain.{plain}
-use Rattle.letters.specs.Number.{numberIn}
-use Rattle.letters.specs.Hex.{hexOf, bytesIn}
+use Rattle.letters.specs.Hex.{hexOf}
 use Rattle.letters.specs.declared.answer.Number.{Number}
-use Rattle.commands.specs.Texts.{unread, word, ofNumber, ofBytes, doneText, refusalText, answerText}
+use Rattle.sayings.specs.Texts.{numberAt, bytesAt, unread, ofNumber, ofBytes, doneText, refusalText, answerText}
 use Rattle.transponder.specs.declared.state.Lock.{Lock}
 use Rattle.transponder.specs.declared.state.Timer.{Timer}
 use Rattle.transponder.specs.declared.state.Holder.{Holder}
@@ -24,8 +23,8 @@ use Rattle.transponder.specs.declared.state.Took.{Took}
 use Rattle.transponder.specs.State.{waiting}
 use Rattle.transponder.specs.Lockout.{locks}
 use Rattle.transponder.specs.Calls.{newborn, making, queuing, taking}
-use Rattle.aircraft.specs.declared.state.Aircraft.{Aircraft}
-use Rattle.aircraft.specs.declared.state.Shown.{Shown}
+use Rattle.sayings.specs.declared.state.Aircraft.{Aircraft}
+use Rattle.sayings.specs.declared.state.Shown.{Shown}
 
 -- ---- the aircraft
 
@@ -62,11 +61,11 @@ abbrev pub numberSaid : ℕ → Aircraft → Said
 numberSaid n a = saying (refusalText n) a
 
 -- a word that is no number, or no bytes, where they belong cannot be read
-abbrev pub withNumber : Aircraft → Number → (ℕ → Said) → Said
-withNumber a n said = ofNumber (unreadSaid a) n said
+abbrev pub saidWithNumber : Aircraft → Number → (ℕ → Said) → Said
+saidWithNumber a n said = ofNumber (unreadSaid a) n said
 
-abbrev pub withBytes : Aircraft → Option (List ℕ) → (List ℕ → Said) → Said
-withBytes a bs said = ofBytes (unreadSaid a) bs said
+abbrev pub saidWithBytes : Aircraft → Option (List ℕ) → (List ℕ → Said) → Said
+saidWithBytes a bs said = ofBytes (unreadSaid a) bs said
 
 -- before any model the line cannot be read
 unfoldable pub whenMade : Aircraft → Said → Said
@@ -79,11 +78,11 @@ madeSaid a m = numberSaid (m .number) (pick (eqb (m .number) 0) (flying (m .tran
 -- the five numbers of the line
 unfoldable pub modelSaid : Aircraft → List (List ℕ) → Said
 modelSaid a ws =
-    withNumber a (numberIn 10 (word 1 ws)) (λ address.
-    withNumber a (numberIn 10 (word 2 ws)) (λ ac.
-    withNumber a (numberIn 10 (word 3 ws)) (λ id.
-    withNumber a (numberIn 10 (word 4 ws)) (λ fs.
-    withNumber a (numberIn 10 (word 5 ws)) (λ ca.
+    saidWithNumber a (numberAt 1 ws) (λ address.
+    saidWithNumber a (numberAt 2 ws) (λ ac.
+    saidWithNumber a (numberAt 3 ws) (λ id.
+    saidWithNumber a (numberAt 4 ws) (λ fs.
+    saidWithNumber a (numberAt 5 ws) (λ ca.
     madeSaid a (making address ac id fs ca))))))
 
 -- ---- `queue`
@@ -93,25 +92,25 @@ queuedSaid q = numberSaid (q .number) (flying (q .transponder))
 
 -- the message of the line
 unfoldable pub queueSaid : Aircraft → List (List ℕ) → Said
-queueSaid a ws = whenMade a (withBytes a (bytesIn (word 1 ws)) (λ message. queuedSaid (queuing (a .transponder) message)))
+queueSaid a ws = whenMade a (saidWithBytes a (bytesAt 1 ws) (λ message. queuedSaid (queuing (a .transponder) message)))
 
 -- ---- `send`
 -- the bytes of a reply, or `-` where there is none
-unfoldable pub replyText : List ℕ → List ℕ
-replyText [] = plain "-"
-replyText (b ∷ bs) = hexOf (b ∷ bs)
+unfoldable pub sentText : List ℕ → List ℕ
+sentText [] = plain "-"
+sentText (b ∷ bs) = hexOf (b ∷ bs)
 
 -- 0 and the reply, or the refusal's number alone, and the aircraft with what the frame has left
 unfoldable pub tookSaid : Took → Said
-tookSaid k = saying (answerText (k .number) (replyText (take (k .length) (k .reply)))) (flying (k .transponder))
+tookSaid k = saying (answerText (k .number) (sentText (take (k .length) (k .reply)))) (flying (k .transponder))
 
 -- the time, the draw and the frame of the line
 unfoldable pub sendSaid : Aircraft → List (List ℕ) → Said
 sendSaid a ws =
     whenMade a
-    (withNumber a (numberIn 10 (word 1 ws)) (λ time.
-    withNumber a (numberIn 10 (word 2 ws)) (λ draw.
-    withBytes a (bytesIn (word 3 ws)) (λ frame.
+    (saidWithNumber a (numberAt 1 ws) (λ time.
+    saidWithNumber a (numberAt 2 ws) (λ draw.
+    saidWithBytes a (bytesAt 3 ws) (λ frame.
     tookSaid (taking (a .transponder) time draw frame)))))
 
 -- ---- `state`
@@ -121,12 +120,12 @@ holderText Nobody = plain "-"
 holderText (Held ii since) = decimal ii
 
 -- the code of the timer at a place: `II0` to `II15`, then `SI1` to `SI63`
-unfoldable pub codeText : ℕ → List ℕ
-codeText k = pick (ltb k 16) (plain " II" ++ decimal k) (plain " SI" ++ decimal (k - 15))
+unfoldable pub timerText : ℕ → List ℕ
+timerText k = pick (ltb k 16) (plain " II" ++ decimal k) (plain " SI" ++ decimal (k - 15))
 
 -- the code if its timer locks
 unfoldable pub lockText : ℕ → Lock → List ℕ
-lockText k l = pick (locks l) (codeText k) []
+lockText k l = pick (locks l) (timerText k) []
 
 -- the locked codes of the timers from the place k on, rising
 unfoldable pub locksText : ℕ → List Timer → List ℕ

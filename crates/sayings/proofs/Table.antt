@@ -9,11 +9,11 @@ use lib.ListN.{length, getD, take, drop, List·getD-map}
 use lib.Seq.{drop-cons}
 use Rattle.letters.specs.Line.{linesOf, wordsOf, parts, full, grown, blank, newline, sameAs}
 use Rattle.letters.specs.Plain.{plain}
-use Rattle.commands.specs.Texts.{word}
-use Rattle.calls.specs.declared.names.Command.{Command}
-use Rattle.calls.specs.declared.names.Command.the-variants.{Unknown}
-use Rattle.calls.specs.Help.{helpText}
-use Rattle.calls.specs.Names.{Named, named, table, commandIn, commandOf, rowCount, rowAt, wordsFor}
+use Rattle.sayings.specs.Texts.{word}
+use Rattle.sayings.specs.declared.names.Command.{Command}
+use Rattle.sayings.specs.declared.names.Command.the-variants.{Unknown}
+use Rattle.sayings.specs.Help.{helpText}
+use Rattle.sayings.specs.Names.{Named, named, table, commandIn, commandOf, rowCount, rowAt, wordsFor}
 
 -- the names as the words of one text
 pub names-are : (k : ℕ) → getD (wordsOf (plain "remainder overlay correct build allcall up down code feet model queue send state help")) k [] ≡ rowAt k .name

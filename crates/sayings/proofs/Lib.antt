@@ -1,0 +1,5 @@
+-- The laws of the lines: that each one's text fits, the table of names, and the whole run.
+pub mod Short
+pub mod ShortAircraft
+pub mod Table
+pub mod Run
