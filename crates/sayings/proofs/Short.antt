@@ -8,10 +8,8 @@ use mathlib.Core.Option.{Option, some, none}
 use lib.Dec.{eqb, ltb}
 use lib.ListN.{length, take, drop, replicate, length-append, length-take, length-replicate}
 use Rattle.lists.specs.Lists.{pick}
-use Rattle.letters.specs.Put.{decimal}
-use Rattle.letters.specs.Plain.{plain}
 use Rattle.letters.specs.Line.{sameAs}
-use Rattle.letters.specs.Hex.{hexIn, hexOf, bytesIn}
+use Rattle.letters.specs.Hex.{bytesIn}
 use Rattle.letters.specs.declared.answer.Number.{Number}
 use Rattle.letters.specs.declared.answer.Number.the-variants.{Is, Not}
 use Rattle.letters.proofs.Decimal.{decimal-length}
@@ -21,9 +19,9 @@ use Rattle.altitude.specs.Code.{altitude}
 use Rattle.feet_lines.specs.Lines as feet-lines
 use Rattle.feet_lines.proofs.Run.{answer-short}
 use Rattle.remainders.specs.Messages.{bits, whole}
-use Rattle.remainders.specs.Answers.{Outcome, done, refusal}
-use Rattle.remainders.specs.Division.{remainderOf, remainderAnswer}
-use Rattle.remainders.specs.Overlays.{overlayOf, uplinkOverlay}
+use Rattle.remainders.specs.Answers.{Answer, Outcome, done, refusal}
+use Rattle.remainders.specs.Division.{remainderOf}
+use Rattle.remainders.specs.Overlays.{overlayOf}
 use Rattle.remainders.specs.Correction.{correction}
 use Rattle.remainders.proofs.Sizes.{Small, outcome-small}
 use Rattle.fields.specs.Answers as frames
@@ -45,7 +43,7 @@ room = 512
 
 -- ---- a text that is one of two, or stands behind a reading
 
-pub either-fits : (t : Bool) (a b : List ℕ) → length a ≤ room → length b ≤ room → length (pick t a b) ≤ room
+pub either-fits : (t : Bool) (a b : List ℕ) {n : ℕ} → length a ≤ n → length b ≤ n → length (pick t a b) ≤ n
 either-fits true a b h k = h
 either-fits false a b h k = k
 
@@ -70,20 +68,22 @@ with-bytes-fits w f h = bytes-by w (bytesIn w) f refl h
 pub answer-fits : (n : ℕ) (v : List ℕ) → n ≤ 17 → length v ≤ 80 → length (answerText n v) ≤ room
 unfolding answerText doneText refusalText
 answer-fits n v h k =
-    either-fits (eqb n 0) (plain "0 " ++ (v ++ plain "\n")) (decimal n ++ plain "\n")
-    (simp length-append (omega arith))
-    (simp length-append (omega (arith, decimal-length 1 n (omega arith))))
+    either-fits (eqb n 0) _ _ (simp length-append (omega arith)) (simp length-append (omega (arith, decimal-length 1 n (omega arith))))
 
-reckoned-fits : (t : Bool) (v n : ℕ) → n ≤ 13 → length (reckonedText (pick t (done v) (refusal n))) ≤ room
+reckoned-fits : (a : Answer) → a .number ≤ 17 → length (reckonedText a) ≤ room
 unfolding reckonedText
-reckoned-fits true v n h = answer-fits 0 (hexIn 6 v) (omega arith) (omega (arith, hex-length 6 v))
-reckoned-fits false v n h = answer-fits n (hexIn 6 0) (omega arith) (omega (arith, hex-length 6 0))
+reckoned-fits a h = answer-fits _ _ h (simp hex-length (omega arith))
+
+-- a reckoning answers 0 or its one refusal
+reckoned-number : (t : Bool) (v n : ℕ) → n ≤ 17 → pick t (done v) (refusal n) .number ≤ 17
+reckoned-number true v n h = omega arith
+reckoned-number false v n h = h
 
 corrected-fits : (o : Outcome) (size : ℕ) → size ≤ 32 → Small size o → length (correctedText o) ≤ room
 unfolding correctedText
 corrected-fits o size k s =
-    answer-fits (o .number) (hexOf (o .output) ++ (plain " " ++ decimal (o .flips))) (omega (arith, s .number))
-    (simp length-append (omega (arith, hex-of-length (o .output), s .output, decimal-length 1 (o .flips) (omega (arith, s .flips)))))
+    answer-fits _ _ (omega (arith, s .number))
+    (simp (length-append, hex-of-length) (omega (arith, s .output, decimal-length 1 (o .flips) (omega (arith, s .flips)))))
 
 fixed-fits : (msg marks : List ℕ) (overlay limit : ℕ) → length msg ≤ 32 → length (fixedText msg marks overlay limit) ≤ room
 unfolding fixedText
@@ -106,29 +106,26 @@ part-fits msg = go (eqb (length msg) 14)
 
 end-fits : (f : ℕ) (part : List ℕ) (r : ℕ) → length part ≤ 7 → length (endText f part r) ≤ 21
 unfolding endText
-end-fits f part r h = go (longFormat f)
-  where
-    go : (t : Bool) → length (pick t (hexOf part ++ (plain " " ++ hexIn 6 r)) (hexIn 6 r)) ≤ 21
-    go true = simp length-append (omega (arith, hex-of-length part, hex-length 6 r))
-    go false = omega (arith, hex-length 6 r)
+end-fits f part r h =
+    either-fits (longFormat f) _ _ (simp length-append (omega (arith, hex-of-length part, hex-length 6 r))) (omega (arith, hex-length 6 r))
 
 seven-fits : (f a b c d m r : ℕ) (part : List ℕ) → f < 100000000 → a < 100000000 → b < 100000000 → c < 100000000 → d < 100000000 → length part ≤ 7
     → length (readText (frames.done (f ∷ a ∷ b ∷ c ∷ d ∷ m ∷ r ∷ [])) part) ≤ room
 unfolding readText valuesText numbersText
 seven-fits f a b c d m r part hf ha hb hc hd hp =
-    answer-fits 0 (numberText f ++ (numberText a ++ (numberText b ++ (numberText c ++ (numberText d ++ endText f part r))))) (omega arith)
+    answer-fits 0 _ (omega arith)
     (simp length-append (omega (arith, number-fits f hf, number-fits a ha, number-fits b hb, number-fits c hc, number-fits d hd, end-fits f part r hp)))
 
 four-fits : (f a b r : ℕ) (part : List ℕ) → f < 100000000 → a < 100000000 → b < 100000000 → length (readText (frames.done (f ∷ a ∷ b ∷ r ∷ [])) part) ≤ room
 unfolding readText valuesText fieldsText
 four-fits f a b r part hf ha hb =
-    answer-fits 0 (numberText f ++ (numberText a ++ (numberText b ++ hexIn 6 r))) (omega arith)
+    answer-fits 0 _ (omega arith)
     (simp length-append (omega (arith, number-fits f hf, number-fits a ha, number-fits b hb, hex-length 6 r)))
 
 five-fits : (f a b c r : ℕ) (part : List ℕ) → f < 100000000 → a < 100000000 → b < 100000000 → c < 100000000 → length (readText (frames.done (f ∷ a ∷ b ∷ c ∷ r ∷ [])) part) ≤ room
 unfolding readText valuesText fieldsText
 five-fits f a b c r part hf ha hb hc =
-    answer-fits 0 (numberText f ++ (numberText a ++ (numberText b ++ (numberText c ++ hexIn 6 r)))) (omega arith)
+    answer-fits 0 _ (omega arith)
     (simp length-append (omega (arith, number-fits f hf, number-fits a ha, number-fits b hb, number-fits c hc, hex-length 6 r)))
 
 refused-fits : (n : ℕ) (part : List ℕ) → n ≤ 17 → length (readText (frames.refusal n) part) ≤ room
@@ -146,27 +143,23 @@ read-fits false u v x y part h k = refused-fits 1 part (omega arith)
 interrogation-fits : (msg : List ℕ) → length (interrogationText msg) ≤ room
 unfolding interrogationText readAs allCallRead selectiveRead
 interrogation-fits msg =
-    read-fits (whole (length msg)) (listed (formatOf msg) (length msg)) (eqb (formatOf msg) 11) _ _ (mbPart msg)
-    (five-fits 11 _ _ _ _ (mbPart msg) (omega arith) (omega arith) (omega arith) (omega arith))
-    (seven-fits _ _ _ _ _ _ _ (mbPart msg) (omega arith) (omega arith) (omega arith) (omega arith) (omega arith) (part-fits msg))
+    read-fits (whole (length msg)) (listed (formatOf msg) (length msg)) (eqb (formatOf msg) 11) _ _ _
+    (five-fits 11 _ _ _ _ _ (omega arith) (omega arith) (omega arith) (omega arith))
+    (seven-fits _ _ _ _ _ _ _ _ (omega arith) (omega arith) (omega arith) (omega arith) (omega arith) (omega (arith, part-fits msg)))
 
 reply-fits : (msg : List ℕ) → length (replyText msg) ≤ room
 unfolding replyText readAs allCallReplyRead surveillanceRead
 reply-fits msg =
-    read-fits (whole (length msg)) (listed (formatOf msg) (length msg)) (eqb (formatOf msg) 11) _ _ (mbPart msg)
-    (four-fits 11 _ _ _ (mbPart msg) (omega arith) (omega arith) (omega arith))
-    (seven-fits _ _ _ _ _ _ _ (mbPart msg) (omega arith) (omega arith) (omega arith) (omega arith) (omega arith) (part-fits msg))
+    read-fits (whole (length msg)) (listed (formatOf msg) (length msg)) (eqb (formatOf msg) 11) _ _ _
+    (four-fits 11 _ _ _ _ (omega arith) (omega arith) (omega arith))
+    (seven-fits _ _ _ _ _ _ _ _ (omega arith) (omega arith) (omega arith) (omega arith) (omega arith) (omega (arith, part-fits msg)))
 
 -- ---- whose code a reply carries
 
 code-word-fits : (vs : List ℕ) → length (codeWord vs) ≤ 80
 unfolding codeWord
-code-word-fits vs = go (sameAs vs frames.own) (sameAs vs frames.matchingII)
-  where
-    go : (t u : Bool) → length (pick t (plain "own") (pick u (plain "matching") (plain "other"))) ≤ 80
-    go true u = omega arith
-    go false true = omega arith
-    go false false = omega arith
+code-word-fits vs =
+    either-fits (sameAs vs frames.own) _ _ (omega arith) (either-fits (sameAs vs frames.matchingII) _ _ (omega arith) (omega arith))
 
 code-number : (t u v : Bool) (x : List ℕ) → pick t (pick u (pick v (frames.done x) (frames.refusal 14)) (frames.refusal 2)) (frames.refusal 1) .number ≤ 17
 code-number true true true x = omega arith
@@ -197,10 +190,10 @@ lent-short false = omega arith
 built-fits : (t u v : Bool) (x l : List ℕ) → length x ≤ 14 → length l ≤ 14
     → length (builtText (pick t (pick u (pick v (frames.written x) (frames.refused 2 l)) (frames.refused 1 l)) (frames.refused 2 l))) ≤ room
 unfolding builtText
-built-fits true true true x l h k = answer-fits 0 (hexOf x) (omega arith) (omega (arith, hex-of-length x))
-built-fits true true false x l h k = answer-fits 2 (hexOf l) (omega arith) (omega (arith, hex-of-length l))
-built-fits true false v x l h k = answer-fits 1 (hexOf l) (omega arith) (omega (arith, hex-of-length l))
-built-fits false u v x l h k = answer-fits 2 (hexOf l) (omega arith) (omega (arith, hex-of-length l))
+built-fits true true true x l h k = answer-fits _ _ (omega arith) (omega (arith, hex-of-length x))
+built-fits true true false x l h k = answer-fits _ _ (omega arith) (omega (arith, hex-of-length l))
+built-fits true false v x l h k = answer-fits _ _ (omega arith) (omega (arith, hex-of-length l))
+built-fits false u v x l h k = answer-fits _ _ (omega arith) (omega (arith, hex-of-length l))
 
 selective-fits : (uf pc rr di sd : ℕ) (ma : List ℕ) (address : ℕ) → length (selectiveText uf pc rr di sd ma address) ≤ room
 unfolding selectiveText building selective
@@ -212,19 +205,23 @@ all-call-fits : (pr ic cl : ℕ) → length (builtText (allCalling pr ic cl (rep
 unfolding allCalling allCall
 all-call-fits pr ic cl = built-fits true true (allCallRanged pr ic cl) (allCall pr ic cl) (replicate 7 0) (frame-short 7 _ _ _) (omega arith)
 
+-- ---- an altitude
+
+altitude-fits : (ac : ℕ) → length (feet-lines.answerText (altitude ac)) ≤ room
+altitude-fits ac = omega (arith, answer-short ac)
+
 -- ---- the lines
 
 module _ (ws : List (List ℕ)) where
   pub remainder-fits : length (remainderText ws) ≤ room
   unfolding remainderText
   remainder-fits =
-      with-bytes-fits (word 1 ws) (λ msg. reckonedText (remainderAnswer msg)) (λ msg h. reckoned-fits (whole (length msg)) (remainderOf (bits msg)) 1 (omega arith))
+      with-bytes-fits (word 1 ws) _ (λ msg h. reckoned-fits _ (omega (arith, reckoned-number (whole (length msg)) (remainderOf (bits msg)) 1 (omega arith))))
 
   pub overlay-fits : length (overlayText ws) ≤ room
   unfolding overlayText
   overlay-fits =
-      with-number-fits (numberAt 1 ws) (λ address. reckonedText (uplinkOverlay address))
-      (λ address. reckoned-fits (ltb address 0x1000000) (overlayOf address) 2 (omega arith))
+      with-number-fits (numberAt 1 ws) _ (λ address. reckoned-fits _ (omega (arith, reckoned-number (ltb address 0x1000000) (overlayOf address) 2 (omega arith))))
 
   pub correct-fits : length (correctText ws) ≤ room
   unfolding correctText
@@ -232,7 +229,7 @@ module _ (ws : List (List ℕ)) where
       with-bytes-fits (word 1 ws) _ (λ msg h.
       with-bytes-fits (word 2 ws) _ (λ marks k.
       with-number-fits (numberAt 3 ws) _ (λ overlay.
-      with-number-fits (numberAt 4 ws) _ (λ limit. fixed-fits msg marks overlay limit h))))
+      with-number-fits (numberAt 4 ws) _ (λ limit. fixed-fits _ _ _ _ h))))
 
   pub build-fits : length (buildText ws) ≤ room
   unfolding buildText
@@ -243,14 +240,14 @@ module _ (ws : List (List ℕ)) where
       with-number-fits (numberAt 4 ws) _ (λ di.
       with-number-fits (numberAt 5 ws) _ (λ sd.
       with-bytes-fits (word 6 ws) _ (λ ma h.
-      with-number-fits (numberAt 7 ws) _ (λ address. selective-fits uf pc rr di sd ma address)))))))
+      with-number-fits (numberAt 7 ws) _ (λ address. selective-fits _ _ _ _ _ _ _)))))))
 
   pub all-call-frame-fits : length (allCallText ws) ≤ room
   unfolding allCallText
   all-call-frame-fits =
       with-number-fits (numberAt 1 ws) _ (λ pr.
       with-number-fits (numberAt 2 ws) _ (λ ic.
-      with-number-fits (numberAt 3 ws) _ (λ cl. all-call-fits pr ic cl)))
+      with-number-fits (numberAt 3 ws) _ (λ cl. all-call-fits _ _ _)))
 
   pub up-fits : length (upText ws) ≤ room
   unfolding upText
@@ -266,9 +263,9 @@ module _ (ws : List (List ℕ)) where
       with-bytes-fits (word 1 ws) _ (λ msg h.
       with-number-fits (numberAt 2 ws) _ (λ cl.
       with-number-fits (numberAt 3 ws) _ (λ ic.
-      with-number-fits (numberAt 4 ws) _ (λ permit. whose-fits msg cl ic permit))))
+      with-number-fits (numberAt 4 ws) _ (λ permit. whose-fits _ _ _ _))))
 
   pub feet-fits : length (feetText ws) ≤ room
   unfolding feetText
   feet-fits =
-      with-number-fits (numberAt 1 ws) (λ ac. feet-lines.answerText (altitude ac)) (λ ac. omega (arith, answer-short ac))
+      with-number-fits (numberAt 1 ws) _ (λ ac. altitude-fits _)

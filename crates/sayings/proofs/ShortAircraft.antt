@@ -2,13 +2,9 @@
 use Prim.Native.Nat.{ℕ, suc, _+_, _-_, _*_, _≤_, _<_}
 use native.Mathlib.Omega.{arith}
 use mathlib.Core.Path.{_≡_}
-use mathlib.Core.Bool.{Bool, true, false}
-use mathlib.Core.List.{List, [], _∷_, _++_}
+use mathlib.Core.List.{List, [], _∷_}
 use lib.Dec.{ltb}
 use lib.ListN.{length, length-append}
-use Rattle.lists.specs.Lists.{pick}
-use Rattle.letters.specs.Put.{decimal}
-use Rattle.letters.specs.Plain.{plain}
 use Rattle.letters.proofs.Decimal.{decimal-length, decimal-fits}
 use Rattle.letters.proofs.HexMade.{hex-of-length}
 use Rattle.sayings.specs.Texts.{doneText, refusalText}
@@ -17,6 +13,7 @@ use Rattle.transponder.specs.declared.state.Timer.{Timer}
 use Rattle.transponder.specs.declared.state.Transponder.{Transponder}
 use Rattle.transponder.specs.Lockout.{locks}
 use Rattle.transponder.specs.State.{waiting}
+use Rattle.sayings.proofs.Short.{either-fits}
 use Rattle.sayings.specs.Aircraft.{sentText, holderText, timerText, lockText, locksText, stateText}
 
 pub refusal-fits : (n : ℕ) → n < 256 → length (refusalText n) ≤ 512
@@ -32,19 +29,14 @@ sent-fits (b ∷ l) h = simp length-append (omega (arith, hex-of-length (b ∷ l
 
 timer-fits : (k : ℕ) → k < 79 → length (timerText k) ≤ 5
 unfolding timerText
-timer-fits k h = go (ltb k 16)
-  where
-    go : (t : Bool) → length (pick t (plain " II" ++ decimal k) (plain " SI" ++ decimal (k - 15))) ≤ 5
-    go true = simp length-append (omega (arith, decimal-length 1 k (omega arith)))
-    go false = simp length-append (omega (arith, decimal-length 1 (k - 15) (omega arith)))
+timer-fits k h =
+    either-fits (ltb k 16) _ _
+    (simp length-append (omega (arith, decimal-length 1 k (omega arith))))
+    (simp length-append (omega (arith, decimal-length 1 (k - 15) (omega arith))))
 
 lock-fits : (k : ℕ) (l : Lock) → k < 79 → length (lockText k l) ≤ 5
 unfolding lockText
-lock-fits k l h = go (locks l)
-  where
-    go : (t : Bool) → length (pick t (timerText k) []) ≤ 5
-    go true = timer-fits k h
-    go false = omega arith
+lock-fits k l h = either-fits (locks l) _ _ (omega (arith, timer-fits k h)) (omega arith)
 
 locks-fit : (k : ℕ) (ts : List Timer) → k + length ts ≤ 79 → length (locksText k ts) ≤ 5 * length ts
 unfolding locksText
