@@ -7,8 +7,7 @@ use mathlib.Core.Path.{_≡_, refl, sym, subst, ap, _∙_}
 use mathlib.Core.List.{List, [], _∷_, _++_, append-nil}
 use lib.ListN.{length, getD, take, drop, set, length-append, length-take}
 use lib.Seq.{append-snoc, length-take-le}
-use lib.Dec.{ltb}
-use Rattle.lists.specs.Lists.{pick, over}
+use Rattle.lists.specs.Lists.{over}
 use Rattle.lists.proofs.Front.{front-drop, front-end, take-cut}
 use Rattle.lists.proofs.Over.{over-none, over-self, over-push, over-over, take-over}
 use Rattle.plans.specs.declared.request.Ask.{Ask}
@@ -23,7 +22,7 @@ use Rattle.plans.specs.Shares.{share}
 use Rattle.plans.specs.Plan.{Board, tried, stays, pass, passOver, alone, turns, nothingPlaced, plan, placedIn, waitingIn, boardOf, planned}
 use Rattle.planner.specs.Promises.{Tallied}
 use Rattle.plans.proofs.Passes.{passed, longer, turns-sizes}
-use Rattle.planner.proofs.Tallies.{tallied-more, tallied-small, tried-by-count}
+use Rattle.planner.proofs.Tallies.{tallied-more, tallied-small, at-limit, below-limit}
 
 -- a request that was tried is placed behind the others, or waits behind the others
 settled : Place → Ask → Board → Board
@@ -139,20 +138,23 @@ module _ (L : ℕ) (limits : List ℕ) where
                   ∙ ap (λ (q : Place). rest (settled q a (h .board)) w) (sym e);
             }
 
-        -- the request stays, or is placed
+        -- the unit is at its limit; or it is below, and the request is placed, or stays
         module _ (k n : ℕ) (eight : length limits ≡ 8) (q : k ≡ share limits (a .request .unit)) (c : n ≡ share counts (a .request .unit)) where
-          counted : pick (ltb n k) (place L (placedIn p) a) Nowhere ≡ tried L (share limits (a .request .unit)) (h .board .placed) a
-          counted = rw (q, c, here) (tried-by-count L limits counts (h .board .placed) a eight (h .tallied))
-
-          pub sweep-stay : Nowhere ≡ pick (ltb n k) (place L (placedIn p) a) Nowhere → Sweeping base b (i + 1) counts (record { placed = p .placed; entries = p .entries; waiting = p .waiting + 1; asks = set (p .asks) (p .waiting) a })
+          pub sweep-limit : k ≤ n → Sweeping base b (i + 1) counts (record { placed = p .placed; entries = p .entries; waiting = p .waiting + 1; asks = set (p .asks) (p .waiting) a })
           unfolding settled
-          sweep-stay e = step Nowhere counts (e ∙ counted) (h .tallied)
+          sweep-limit f = step Nowhere counts (at-limit L limits counts (h .board .placed) a eight (h .tallied) (omega arith)) (h .tallied)
 
-          pub sweep-at : (t : ℕ) (x : Entry) (counts′ : List ℕ) → x ≡ entryAt a t → counts′ ≡ set counts (a .request .unit) (share counts (a .request .unit) + 1) → At t ≡ pick (ltb n k) (place L (placedIn p) a) Nowhere → Sweeping base b (i + 1) counts′ (record { placed = p .placed + 1; entries = set (p .entries) (p .placed) x; waiting = p .waiting; asks = p .asks })
+          pub sweep-stay : n < k → Nowhere ≡ place L (placedIn p) a → Sweeping base b (i + 1) counts (record { placed = p .placed; entries = p .entries; waiting = p .waiting + 1; asks = set (p .asks) (p .waiting) a })
           unfolding settled
-          sweep-at t x counts′ y z e =
+          sweep-stay f e =
+              step Nowhere counts (e ∙ ap (λ (v : List Entry). place L v a) here ∙ below-limit L limits counts (h .board .placed) a eight (h .tallied) (omega arith)) (h .tallied)
+
+          pub sweep-at : n < k → (t : ℕ) (x : Entry) (counts′ : List ℕ) → x ≡ entryAt a t → counts′ ≡ set counts (a .request .unit) (share counts (a .request .unit) + 1) → At t ≡ place L (placedIn p) a → Sweeping base b (i + 1) counts′ (record { placed = p .placed + 1; entries = set (p .entries) (p .placed) x; waiting = p .waiting; asks = p .asks })
+          unfolding settled
+          sweep-at f t x counts′ y z e =
               rw (y, z)
-              (step (At t) (set counts (a .request .unit) (share counts (a .request .unit) + 1)) (e ∙ counted)
+              (step (At t) (set counts (a .request .unit) (share counts (a .request .unit) + 1))
+              (e ∙ ap (λ (v : List Entry). place L v a) here ∙ below-limit L limits counts (h .board .placed) a eight (h .tallied) (omega arith))
               (tallied-more counts (h .board .placed) (entryAt a t) (h .tallied)))
 
     pub sweep-end : (i : ℕ) (counts : List ℕ) (p : Planned) → b .waiting ≤ i → Sweeping base b i counts p → p ≡ planned (passOver L limits (boardOf b)) (b .entries) base

@@ -1,15 +1,14 @@
--- Counts by unit, and what a request tried by them comes to.
+-- Counts by unit, and whether a unit has reached its limit.
 use Prim.Native.Nat.{ℕ, _+_, _≤_, _<_}
 use native.Mathlib.Omega.{arith}
 use mathlib.Core.Path.{_≡_, refl, sym, ap, _∙_}
 use mathlib.Core.Logic.{⊎-elim}
 use mathlib.Core.Bool.{Bool, true, false}
 use mathlib.Core.List.{List, [], _∷_, _++_}
-use lib.Dec.{eqb, ltb}
+use lib.Dec.{eqb}
 use lib.ListN.{length, getD, take, set, replicate, length-set, List·getD-eq-default}
 use lib.Seq.{getD-set-same, getD-set-other}
-use borrow.Author.Tests.{le-ltb, eqb-true, eqb-false}
-use Rattle.lists.specs.Lists.{pick}
+use borrow.Author.Tests.{lt-ltb, le-ltb, eqb-true, eqb-false}
 use Rattle.lists.proofs.Front.{front-take}
 use Rattle.lists.proofs.Count.{count-nil, count-le, count-snoc-yes, count-snoc-no}
 use Rattle.plans.specs.declared.request.Ask.{Ask}
@@ -55,12 +54,23 @@ tallied-small c es u n h =
     (λ l. omega (arith, h .each u l, count-le (λ (e : Entry). ofUnit u (e .ask)) es))
     (le-or-lt 8 u)
 
--- a unit above 7 has no share, and of the others the counts say how many are placed
-pub tried-by-count : (L : ℕ) (limits c : List ℕ) (es : List Entry) (a : Ask) → length limits ≡ 8 → Tallied c es → pick (ltb (share c (a .request .unit)) (share limits (a .request .unit))) (place L es a) Nowhere ≡ tried L (share limits (a .request .unit)) es a
-unfolding tried
-tried-by-count L limits c es a eight h =
-    let u = a .request .unit in
-    ⊎-elim
-    (λ k. let z = List·getD-eq-default limits 0 {n = u} (omega arith) in rw (le-ltb (share c u) (share limits u) (omega arith), le-ltb (taken u es) (share limits u) (omega arith)))
-    (λ k. rw (h .each u k))
-    (le-or-lt 8 u)
+-- a unit at its limit gets no place, one below it gets what there is
+module _ (L : ℕ) (limits c : List ℕ) (es : List Entry) (a : Ask) (eight : length limits ≡ 8) (h : Tallied c es) where
+  abbrev unit : ℕ
+  unit = a .request .unit
+
+  pub at-limit : share limits unit ≤ share c unit → Nowhere ≡ tried L (share limits unit) es a
+  unfolding tried
+  at-limit l =
+      ⊎-elim
+      (λ k. let z = List·getD-eq-default limits 0 {n = unit} (omega arith) in rw (le-ltb (taken unit es) (share limits unit) (omega arith)))
+      (λ k. rw (le-ltb (taken unit es) (share limits unit) (omega (arith, h .each unit k))))
+      (le-or-lt 8 unit)
+
+  pub below-limit : share c unit < share limits unit → place L es a ≡ tried L (share limits unit) es a
+  unfolding tried
+  below-limit l =
+      ⊎-elim
+      (λ k. let z = List·getD-eq-default limits 0 {n = unit} (omega arith) in absurd (omega arith))
+      (λ k. rw (lt-ltb (taken unit es) (share limits unit) (omega (arith, h .each unit k))))
+      (le-or-lt 8 unit)

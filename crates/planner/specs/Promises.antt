@@ -5,13 +5,10 @@ use mathlib.Core.Logic.{_⊎_}
 use mathlib.Core.Bool.{Bool, true, false}
 use mathlib.Core.List.{List}
 use lib.ListN.{length, getD, take, set}
-use lib.Dec.{ltb}
-use Rattle.lists.specs.Lists.{pick}
 use Rattle.planner.specs.declared.exchange.Exchange.{Exchange}
 use Rattle.plans.specs.declared.request.Ask.{Ask}
 use Rattle.plans.specs.declared.entry.Entry.{Entry}
 use Rattle.plans.specs.declared.plan.Place.{Place}
-use Rattle.plans.specs.declared.plan.Place.the-variants.{Nowhere}
 use Rattle.plans.specs.Exchange.{Course, sentLong, earliest, longest, exchangeOf, entryAt, transmits, listens, clear}
 use Rattle.plans.specs.Fits.{place}
 use Rattle.plans.specs.Shares.{share}
@@ -81,10 +78,6 @@ pub record ClearingRow (p : Exchange) (address : ℕ) (rows : List ℕ) (i t r :
 -- the place of a request beside the first n of any entries that the rows show
 abbrev pub Placing : ℕ → Ask → ℕ → List ℕ → Place → Type 0
 Placing L a n rows r = (es : List Entry) → n ≤ length es → Shown rows n es → r ≡ place L (take n es) a
-
--- the same for a request whose unit has a limit and so many placed
-abbrev pub Trying : ℕ → ℕ → ℕ → Ask → ℕ → List ℕ → Place → Type 0
-Trying limit count L a n rows r = (es : List Entry) → n ≤ length es → Shown rows n es → r ≡ pick (ltb count limit) (place L (take n es) a) Nowhere
 
 -- a list of eight counts says how many entries each unit has
 pub record Tallied (counts : List ℕ) (es : List Entry) : Type 0 where

@@ -9,7 +9,7 @@ ghost use Rattle.planner.specs.Promises.{Tallied, noted, Shown};
 use crate::entry::entry_at;
 use crate::exchange::Exchange;
 use crate::exchange::wide;
-use crate::search::try_fit;
+use crate::search::first_fit;
 use crate::shares::share;
 use plans::Ask;
 use plans::Asks;
@@ -100,8 +100,6 @@ fn sweep(l: u32, limits: [u8; 8], base: [Ask; 128], b: Planned) -> Planned
     requires { ⌜ (l ≤ 65535) × (b .placed + b .waiting ≤ 128) ⌝ }
     ensures { λ r. ⌜ r ≡ planned (passOver l limits (boardOf b)) (b .entries) base ⌝ }
 {
-    let asks = b.asks;
-    let m = b.waiting;
     let mut placed = b.placed;
     let mut entries = b.entries;
     let mut counts = tally(placed, entries);
@@ -109,16 +107,19 @@ fn sweep(l: u32, limits: [u8; 8], base: [Ask; 128], b: Planned) -> Planned
     let mut waiting: usize = 0;
     let mut left = base;
     let mut i: usize = 0;
-    while i < m {
-        let a = asks[i];
+    while i < b.waiting {
+        let a = b.asks[i];
         i += 1;
-        let u = a.request.unit;
-        let s = try_fit(share(limits, u), share(counts, u), l, a, placed, &rows);
-        match s {
+        if share(limits, a.request.unit) <= share(counts, a.request.unit) {
+            left[waiting] = a;
+            waiting += 1;
+            continue;
+        }
+        match first_fit(l, a, placed, &rows) {
             Place::At(t) => {
                 entries[placed] = entry_at(a, t);
                 note(&mut rows, placed, a, t);
-                one_more(&mut counts, u);
+                one_more(&mut counts, a.request.unit);
                 placed += 1;
             }
             Place::Nowhere => {

@@ -1,6 +1,6 @@
 // The search for the smallest start that fits, which jumps past what is in the way.
 ghost use Prim.Native.Nat.{ℕ, _≤_, _<_};
-ghost use Rattle.planner.specs.Promises.{Past, Small, Clearing, ClearingRow, Roomy, Placing, Trying};
+ghost use Rattle.planner.specs.Promises.{Past, Small, Clearing, ClearingRow, Roomy, Placing};
 use crate::exchange::Exchange;
 use plans::Ask;
 use plans::Place;
@@ -63,7 +63,7 @@ fn nudge(t: u32, p: Exchange, address: u32, i: usize, rows: &[u32; 640]) -> u32
 
 // The smallest start that fits beside the n entries that the rows show: round after round over them, from where the last one came
 // to, until one moves nothing.
-fn first_fit(l: u32, a: Ask, n: usize, rows: &[u32; 640]) -> Place
+pub(crate) fn first_fit(l: u32, a: Ask, n: usize, rows: &[u32; 640]) -> Place
     requires { ⌜ (l ≤ 65535) × (n ≤ 128) × ((i : ℕ) → i < n → Roomy (now rows) i) ⌝ }
     ensures { λ r. ⌜ Placing l a n (now (rows .entry)) r ⌝ }
 {
@@ -89,15 +89,4 @@ fn first_fit(l: u32, a: Ask, n: usize, rows: &[u32; 640]) -> Place
         i = 0;
     }
     Place::Nowhere
-}
-
-// The same for a request whose unit has so many placed: a unit at its limit gets no place.
-pub(crate) fn try_fit(limit: u32, count: u32, l: u32, a: Ask, n: usize, rows: &[u32; 640]) -> Place
-    requires { ⌜ (l ≤ 65535) × (n ≤ 128) × ((i : ℕ) → i < n → Roomy (now rows) i) ⌝ }
-    ensures { λ r. ⌜ Trying limit count l a n (now (rows .entry)) r ⌝ }
-{
-    if limit <= count {
-        return Place::Nowhere;
-    }
-    first_fit(l, a, n, rows)
 }
