@@ -14,7 +14,7 @@ use lib.Pow.{high, mod-pow-add}
 use borrow.Author.Tests.{ltb-true, ltb-false, lt-ltb, le-ltb}
 use Rattle.lists.proofs.Xor.{xor-swap, xor-move}
 use Rattle.remainders.specs.Messages.{AreBits}
-use Rattle.lists.specs.Lists.{spelled}
+use Rattle.lists.specs.Lists.{spelled, All}
 use Rattle.remainders.specs.Division.{generator, shiftIn}
 use Rattle.remainders.specs.Overlays.{lowBits, times, overlayOf}
 use Rattle.remainders.proofs.Laws.{overlay-lt}
@@ -41,6 +41,7 @@ spelled-split (b ∷ bs) r =
     none-before y = omega arith
 
 spelled-lt : (bs : List ℕ) → AreBits bs → spelled 0 bs < 2 ^ length bs
+unfolding All
 spelled-lt [] h = omega arith
 spelled-lt (b ∷ bs) h =
     let e : 0 * 2 + b ≡ b = omega arith in
@@ -48,7 +49,7 @@ spelled-lt (b ∷ bs) h =
 
 -- the low bits of the number that some bits spell are those bits
 bits-back : (bs : List ℕ) → AreBits bs → (r : ℕ) → lowBits (length bs) (spelled r bs) ≡ bs
-unfolding lowBits
+unfolding All lowBits
 bits-back [] h r = refl
 bits-back (b ∷ bs) h r =
     ap₂ (λ (x : ℕ) (l : List ℕ). x ∷ l)
@@ -61,7 +62,7 @@ low-length zero a = refl
 low-length (suc n) a = ap suc (low-length n a)
 
 low-are : (n a : ℕ) → AreBits (lowBits n a)
-unfolding lowBits
+unfolding All lowBits
 low-are zero a = tt
 low-are (suc n) a = (omega arith, low-are n a)
 
@@ -95,7 +96,7 @@ left-lt zero r h = h
 left-lt (suc n) r h = left-lt n (shiftIn r 0) (next-lt r h)
 
 quotient-are : (n r : ℕ) → r < 16777216 → AreBits (quotientBits n r)
-unfolding quotientBits
+unfolding All quotientBits
 quotient-are zero r h = tt
 quotient-are (suc n) r h = (omega arith, quotient-are n (shiftIn r 0) (next-lt r h))
 
@@ -154,7 +155,7 @@ bit-lt b h = omega arith
 
 -- products that differ above x^23 differ there whatever bits follow
 apart : (xs ys : List ℕ) → AreBits xs → AreBits ys → length xs ≡ length ys → (p q : ℕ) → 16777216 ≤ bitXor p q → 16777216 ≤ bitXor (times p xs) (times q ys)
-unfolding times
+unfolding All times
 apart [] [] hx hy e p q l = l
 apart [] (y ∷ ys) hx hy e p q l = absurd (omega arith)
 apart (x ∷ xs) [] hx hy e p q l = absurd (omega arith)
@@ -192,7 +193,7 @@ same-upper a b e l =
     omega arith
 
 told-apart : (xs ys : List ℕ) → AreBits xs → AreBits ys → length xs ≡ length ys → (p : ℕ) → times p xs / 16777216 ≡ times p ys / 16777216 → xs ≡ ys
-unfolding times
+unfolding All times
 told-apart [] [] hx hy e p q = refl
 told-apart [] (y ∷ ys) hx hy e p q = absurd (omega arith)
 told-apart (x ∷ xs) [] hx hy e p q = absurd (omega arith)

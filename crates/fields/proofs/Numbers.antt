@@ -12,6 +12,7 @@ use lib.Pow.{pow-add, pow-mono, mod-pow-add, high}
 use lib.Seq.{drop-cons, sets}
 use Rattle.remainders.specs.Messages.{AreBytes}
 use Rattle.fields.specs.Bytes.{bytesOf, followed, numberOf}
+use Rattle.lists.specs.Lists.{All}
 
 -- ---- reading: one byte on
 widen : (r b x : ℕ) → r < x → b < 256 → r * 256 + b < x * 256
@@ -72,11 +73,13 @@ split (b ∷ t) q =
     ∙ sym (ap₂ (λ (x y : ℕ). q * x + y) (eight-more (length t)) (ap (λ (k : ℕ). followed k t) (none-before 256 b) ∙ split t b))
 
 pub number-lt : (t : List ℕ) → AreBytes t → numberOf t < 2 ^ (8 * length t)
+unfolding All
 number-lt [] h = omega arith
 number-lt (b ∷ t) h =
     rw (eight-more (length t), none-before 256 b, split t b) (digits-lt {q = b} {m = 256} {r = followed 0 t} {c = 2 ^ (8 * length t)} (h .0) (number-lt t (h .1)))
 
 bytes-back : (t : List ℕ) → AreBytes t → (q : ℕ) → bytesOf (length t) (followed q t) ≡ t
+unfolding All
 bytes-back [] h q = refl
 bytes-back (b ∷ t) h q =
     ap₂ (λ (x : ℕ) (l : List ℕ). x ∷ l)
@@ -88,5 +91,6 @@ bytes-number t h = bytes-back t h 0
 
 -- ---- every element is a byte
 pub bytes-are : (n v : ℕ) → AreBytes (bytesOf n v)
+unfolding All
 bytes-are zero v = tt
 bytes-are (suc n) v = (omega arith, bytes-are n v)

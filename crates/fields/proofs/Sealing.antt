@@ -4,14 +4,15 @@ use mathlib.Core.Path.{_≡_, refl, sym, ap, ap₂, _∙_}
 use mathlib.Core.Bool.{Bool, true, false}
 use mathlib.Core.List.{List, [], _∷_, _++_, append-nil}
 use mathlib.Core.Logic.{_⊎_, inl, inr}
-use Prim.Native.Nat.{ℕ, zero, suc, _+_, _-_, _*_, _/_, _%_, _<_, _≤_}
+use Prim.Native.Nat.{ℕ, _+_, _-_, _*_, _/_, _%_, _<_, _≤_}
 use native.Mathlib.Omega.{arith}
 use lib.Bits.{bitXor, xor-lt}
 use lib.Dec.{eqb}
 use lib.ListN.{length, take, drop, take-append-drop, length-drop}
 use lib.Seq.{length-take-le, take-add}
-use Rattle.lists.specs.Lists.{pick}
+use Rattle.lists.specs.Lists.{pick, All}
 use Rattle.lists.proofs.Xor.{xor-back}
+use Rattle.lists.proofs.Held.{all-append, all-take, all-drop}
 use Rattle.remainders.specs.Messages.{bits, whole, AreBytes}
 use Rattle.remainders.specs.Division.{remainderOf}
 use Rattle.remainders.proofs.Laws.{parity-over, remainder-lt}
@@ -52,6 +53,7 @@ sealed-again s a b c ha hb hc =
     ∙ ap (λ (t : List ℕ). s ++ t) (three-bytes a b c ha hb hc)
 
 sealed-by : (s t : List ℕ) → AreBytes t → length t ≡ 3 → sealed s (remainderOf (bits (s ++ t))) ≡ s ++ t
+unfolding All
 sealed-by s [] h e = absurd (omega arith)
 sealed-by s (a ∷ []) h e = absurd (omega arith)
 sealed-by s (a ∷ b ∷ []) h e = absurd (omega arith)
@@ -85,18 +87,8 @@ module _ (head mid overlay : ℕ) (hh : head < 4294967296) (hm : mid < 720575940
       go (inl e) (inl y) = absurd (omega arith)
 
 -- ---- a message is the frame of its own parts
-are-take : (n : ℕ) (s : List ℕ) → AreBytes s → AreBytes (take n s)
-are-take zero s h = tt
-are-take (suc n) [] h = tt
-are-take (suc n) (b ∷ s) h = (h .0, are-take n s (h .1))
-
-are-drop : (n : ℕ) (s : List ℕ) → AreBytes s → AreBytes (drop n s)
-are-drop zero s h = h
-are-drop (suc n) [] h = tt
-are-drop (suc n) (b ∷ s) h = are-drop n s (h .1)
-
 part-bytes : (n : ℕ) (s : List ℕ) → n ≤ length s → AreBytes s → bytesOf n (numberOf (take n s)) ≡ take n s
-part-bytes n s l h = ap (λ (k : ℕ). bytesOf k (numberOf (take n s))) (sym (length-take-le n s l)) ∙ bytes-number (take n s) (are-take n s h)
+part-bytes n s l h = ap (λ (k : ℕ). bytesOf k (numberOf (take n s))) (sym (length-take-le n s l)) ∙ bytes-number (take n s) (all-take (λ b. b < 256) n s h)
 
 module _ (m : List ℕ) (h : AreBytes m) where
   short-front : length m ≡ 7 → front (length m) (headOf m) (midOf m) ≡ take (length m - 3) m
@@ -106,7 +98,7 @@ module _ (m : List ℕ) (h : AreBytes m) where
   long-front : length m ≡ 14 → front (length m) (headOf m) (midOf m) ≡ take (length m - 3) m
   unfolding front headOf midOf
   long-front e =
-      rw e (ap₂ (λ (a b : List ℕ). a ++ b) (part-bytes 4 m (omega arith) h) (part-bytes 7 (drop 4 m) (omega (arith, length-drop 4 m)) (are-drop 4 m h)) ∙ sym (take-add 4 7 m))
+      rw e (ap₂ (λ (a b : List ℕ). a ++ b) (part-bytes 4 m (omega arith) h) (part-bytes 7 (drop 4 m) (omega (arith, length-drop 4 m)) (all-drop (λ b. b < 256) 4 m h)) ∙ sym (take-add 4 7 m))
 
   module _ (w : whole (length m) ≡ true) where
     pub same-front : front (length m) (headOf m) (midOf m) ≡ take (length m - 3) m
@@ -123,7 +115,7 @@ module _ (m : List ℕ) (h : AreBytes m) where
         let t : length (drop k m) ≡ 3 = go (whole-cases (length m) w) in
         ap (λ (l : List ℕ). sealed l (remainderOf (bits m))) same-front
         ∙ ap (λ (l : List ℕ). sealed (take k m) (remainderOf (bits l))) (sym e)
-        ∙ sealed-by (take k m) (drop k m) (are-drop k m h) t
+        ∙ sealed-by (take k m) (drop k m) (all-drop (λ b. b < 256) k m h) t
         ∙ e
       where
         go : (length m ≡ 7) ⊎ (length m ≡ 14) → length (drop (length m - 3) m) ≡ 3
@@ -132,16 +124,12 @@ module _ (m : List ℕ) (h : AreBytes m) where
 
   pub head-lt : 4 ≤ length m → headOf m < 4294967296
   unfolding headOf
-  head-lt l = rw (length-take-le 4 m l) at (number-lt (take 4 m) (are-take 4 m h))
+  head-lt l = rw (length-take-le 4 m l) at (number-lt (take 4 m) (all-take (λ b. b < 256) 4 m h))
 
 -- ---- a frame is bytes
-are-append : (s t : List ℕ) → AreBytes s → AreBytes t → AreBytes (s ++ t)
-are-append [] t hs ht = ht
-are-append (b ∷ s) t hs ht = (hs .0, are-append s t (hs .1) ht)
-
 pub frame-bytes : (n head mid overlay : ℕ) → AreBytes (framed n head mid overlay)
-unfolding front sealed
-frame-bytes n head mid overlay = are-append (bytesOf 4 head ++ pick (eqb n 14) (bytesOf 7 mid) []) (bytesOf 3 _) (are-append (bytesOf 4 head) (pick (eqb n 14) (bytesOf 7 mid) []) (bytes-are 4 head) (go (eqb n 14))) (bytes-are 3 _)
+unfolding All front sealed
+frame-bytes n head mid overlay = all-append (λ b. b < 256) (bytesOf 4 head ++ pick (eqb n 14) (bytesOf 7 mid) []) (bytesOf 3 _) (all-append (λ b. b < 256) (bytesOf 4 head) (pick (eqb n 14) (bytesOf 7 mid) []) (bytes-are 4 head) (go (eqb n 14))) (bytes-are 3 _)
   where
     go : (b : Bool) → AreBytes (pick b (bytesOf 7 mid) [])
     go true = bytes-are 7 mid

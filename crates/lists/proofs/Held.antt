@@ -1,5 +1,7 @@
--- What holds of each element: of one more, of two lists joined, under an implication.
+-- What holds of each element: of one more, of two lists joined, of a part, under an implication.
+use Prim.Native.Nat.{ℕ, zero, suc}
 use mathlib.Core.List.{List, [], _∷_, _++_}
+use lib.ListN.{take, drop}
 use Rattle.lists.specs.Lists.{All}
 
 module _ {A : Type 0} (P : A → Type 0) where
@@ -23,6 +25,18 @@ module _ {A : Type 0} (P : A → Type 0) where
   unfolding All
   all-append [] w a b = b
   all-append (x ∷ v) w a b = (a .0, all-append v w (a .1) b)
+
+  pub all-take : (n : ℕ) (v : List A) → All P v → All P (take n v)
+  unfolding All
+  all-take zero v a = tt
+  all-take (suc n) [] a = tt
+  all-take (suc n) (x ∷ v) a = (a .0, all-take n v (a .1))
+
+  pub all-drop : (n : ℕ) (v : List A) → All P v → All P (drop n v)
+  unfolding All
+  all-drop zero v a = a
+  all-drop (suc n) [] a = a
+  all-drop (suc n) (x ∷ v) a = all-drop n v (a .1)
 
   pub all-of : ((x : A) → P x) → (v : List A) → All P v
   unfolding All

@@ -4,8 +4,9 @@ use mathlib.Core.Path.{_≡_, refl, ap}
 use mathlib.Core.List.{List, [], _∷_, _++_}
 use Prim.Native.Nat.{ℕ, zero, suc, _-_, _*_, _/_, _%_, _^_, _<_}
 use native.Mathlib.Omega.{arith}
-use lib.ListN.{length, getD, drop}
+use lib.ListN.{length, getD}
 use Rattle.remainders.specs.Messages.{bits, byteThen, AreBits, AreBytes}
+use Rattle.lists.specs.Lists.{All}
 
 pub bits-length : (s : List ℕ) → length (bits s) ≡ length s * 8
 unfolding bits
@@ -13,16 +14,12 @@ bits-length [] = refl
 bits-length (b ∷ s) = omega (arith, bits-length s)
 
 pub bits-are : (s : List ℕ) → AreBits (bits s)
-unfolding bits
+unfolding All bits
 bits-are [] = tt
 bits-are (b ∷ s) = (omega arith, (omega arith, (omega arith, (omega arith, (omega arith, (omega arith, (omega arith, (omega arith, bits-are s))))))))
 
-pub are-drop : (i : ℕ) (s : List ℕ) → AreBits s → AreBits (drop i s)
-are-drop zero s h = h
-are-drop (suc i) [] h = tt
-are-drop (suc i) (x ∷ s) h = are-drop i s (h .1)
-
 pub are-at : (s : List ℕ) → AreBits s → (i : ℕ) → getD s i 0 < 2
+unfolding All
 are-at [] h i = omega arith
 are-at (x ∷ s) h zero = h .0
 are-at (x ∷ s) h (suc i) = are-at s (h .1) i
@@ -51,5 +48,6 @@ bits-append (b ∷ s) t = ap (byteThen b) (bits-append s t)
 
 -- ---- a list whose every place holds a byte
 pub bytes-by-place : (s : List ℕ) → ((i : ℕ) → i < length s → getD s i 0 < 256) → AreBytes s
+unfolding All
 bytes-by-place [] h = tt
 bytes-by-place (b ∷ s) h = (h 0 (omega arith), bytes-by-place s (λ i l. h (suc i) (omega arith)))

@@ -9,15 +9,16 @@ use lib.Bits.{bitXor, xor-block, xor-lt, xor-shr, xor-mod}
 use lib.ListN.{length, take, drop}
 use lib.Pow.{pow-mono}
 use Rattle.lists.proofs.Xor.{xor-back}
-use Rattle.lists.specs.Lists.{spelled}
+use Rattle.lists.specs.Lists.{spelled, All}
+use Rattle.lists.proofs.Held.{all-drop}
 use Rattle.remainders.specs.Messages.{bits, byteThen, xorBits, differing, AreBits, AreBytes}
 use Rattle.remainders.specs.Correction.{flipped}
 use Rattle.remainders.proofs.Linear.{byte-value, byte-bits}
-use Rattle.remainders.proofs.Bits.{bits-length, are-drop}
+use Rattle.remainders.proofs.Bits.{bits-length}
 
 -- ---- the places where two messages differ, flipped, make the one of the other
 spelled-xor : (xs ys : List ℕ) → AreBits xs → AreBits ys → length xs ≡ length ys → (p q : ℕ) → spelled (bitXor p q) (xorBits xs ys) ≡ bitXor (spelled p xs) (spelled q ys)
-unfolding xorBits
+unfolding All xorBits
 spelled-xor [] [] hx hy e p q = refl
 spelled-xor [] (y ∷ ys) hx hy e p q = absurd (omega arith)
 spelled-xor (x ∷ xs) [] hx hy e p q = absurd (omega arith)
@@ -34,7 +35,7 @@ byte-flip b c hb hc =
     ∙ xor-back b c
 
 pub flipped-back : (msg sent : List ℕ) → AreBytes msg → AreBytes sent → length sent ≡ length msg → flipped msg (differing msg sent) ≡ sent
-unfolding flipped bits xorBits
+unfolding All flipped bits xorBits
 flipped-back [] [] hm hs e = refl
 flipped-back [] (c ∷ sent) hm hs e = absurd (omega arith)
 flipped-back (b ∷ msg) [] hm hs e = absurd (omega arith)
@@ -73,7 +74,7 @@ byte-xor b x0 x1 x2 x3 x4 x5 x6 x7 h0 h1 h2 h3 h4 h5 h6 h7 r =
     refl
 
 pub flipped-bits : (msg s : List ℕ) → AreBits s → length s ≡ length msg * 8 → bits (flipped msg s) ≡ xorBits (bits msg) s
-unfolding flipped bits xorBits
+unfolding All flipped bits xorBits
 flipped-bits [] s h e = refl
 flipped-bits (b ∷ msg) [] h e = absurd (omega arith)
 flipped-bits (b ∷ msg) (x0 ∷ []) h e = absurd (omega arith)
@@ -105,6 +106,7 @@ flipped-length (b ∷ msg) s = ap suc (flipped-length msg (drop 8 s))
 
 -- bits spell a number of as many digits
 spelled-lt : (n k r : ℕ) (s : List ℕ) → AreBits s → r < 2 ^ k → spelled r (take n s) < 2 ^ (n + k)
+unfolding All
 spelled-lt zero k r s h l = lt-of-lt-of-le l (pow-mono {j = 0 + k} (omega arith))
 spelled-lt (suc n) k r [] h l = lt-of-lt-of-le l (pow-mono {j = suc n + k} (omega arith))
 spelled-lt (suc n) k r (x ∷ s) h l =
@@ -112,7 +114,7 @@ spelled-lt (suc n) k r (x ∷ s) h l =
     rw e at (spelled-lt n (suc k) (r * 2 + x) s (h .1) (omega (arith, pow-suc 2 k, h .0)))
 
 pub flipped-bytes : (msg s : List ℕ) → AreBytes msg → AreBits s → AreBytes (flipped msg s)
-unfolding flipped
+unfolding All flipped
 flipped-bytes [] s hm hs = tt
 flipped-bytes (b ∷ msg) s hm hs =
-    (xor-lt 8 b (spelled 0 (take 8 s)) (hm .0) (spelled-lt 8 0 0 s hs (omega arith)), flipped-bytes msg (drop 8 s) (hm .1) (are-drop 8 s hs))
+    (xor-lt 8 b (spelled 0 (take 8 s)) (hm .0) (spelled-lt 8 0 0 s hs (omega arith)), flipped-bytes msg (drop 8 s) (hm .1) (all-drop (λ x. x < 2) 8 s hs))

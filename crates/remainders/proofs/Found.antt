@@ -18,6 +18,7 @@ use Rattle.remainders.specs.Corrected.{Within}
 
 -- ---- places within the marks
 pub within-are : (s ms : List ℕ) → AreBits ms → Within s ms → AreBits s
+unfolding All
 within-are [] ms b h = tt
 within-are (x ∷ s) [] b h = absurd h
 within-are (x ∷ s) (m ∷ ms) b h = (omega (arith, h .0, b .0), within-are s ms (b .1) (h .1))
@@ -69,7 +70,7 @@ has-map x t (s ∷ r) (inl e) = inl (ap (λ (l : List ℕ). x ∷ l) e)
 has-map x t (s ∷ r) (inr h) = inr (has-map x t r h)
 
 subsets-has : (t ms : List ℕ) → AreBits ms → Within t ms → Has t (subsets ms)
-unfolding subsets
+unfolding All subsets
 subsets-has [] [] b h = inl refl
 subsets-has [] (m ∷ ms) b h = absurd h
 subsets-has (x ∷ t) [] b h = absurd h

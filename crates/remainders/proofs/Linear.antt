@@ -10,7 +10,7 @@ use lib.Dec.{ltb}
 use lib.ListN.{length, replicate}
 use borrow.Author.Tests.{ltb-true, ltb-false, lt-ltb, le-ltb}
 use lib.Bits.{bitXor, xor-block, xor-lt, xor-shr, xor-zero-r, xor-shifted}
-use Rattle.lists.specs.Lists.{spelled}
+use Rattle.lists.specs.Lists.{spelled, All}
 use Rattle.remainders.specs.Division.{reduce, generator, shiftIn, divide}
 use Rattle.remainders.specs.Messages.{byteThen, xorBits, AreBits}
 use Rattle.remainders.specs.Steps.{movedUp}
@@ -69,14 +69,14 @@ unfolding shiftIn
 shift-lt r b hr hb = reduce-lt (r * 2 + b) (omega arith)
 
 pub divide-lt : (xs : List ℕ) → AreBits xs → (r : ℕ) → r < 16777216 → divide r xs < 16777216
-unfolding divide
+unfolding All divide
 divide-lt [] h r hr = hr
 divide-lt (x ∷ xs) h r hr = divide-lt xs (h .1) (shiftIn r x) (shift-lt r x hr (h .0))
 
 -- the remainder of a sum is the sum of the remainders
 pub divide-xor : (xs ys : List ℕ) → AreBits xs → AreBits ys → length xs ≡ length ys → (r s : ℕ) → r < 16777216 → s < 16777216
     → divide (bitXor r s) (xorBits xs ys) ≡ bitXor (divide r xs) (divide s ys)
-unfolding divide xorBits
+unfolding All divide xorBits
 divide-xor [] [] hx hy e r s hr hs = refl
 divide-xor [] (y ∷ ys) hx hy e r s hr hs = absurd (omega arith)
 divide-xor (x ∷ xs) [] hx hy e r s hr hs = absurd (omega arith)
@@ -96,6 +96,7 @@ low r [] h = refl
 low r (b ∷ bs) h = rw (reduce-low (r * 2 + b) (h .0)) (low (r * 2 + b) bs (h .1))
 
 pub byte-bits : (b : ℕ) → AreBits (byteThen b [])
+unfolding All
 byte-bits b = (omega arith, (omega arith, (omega arith, (omega arith, (omega arith, (omega arith, (omega arith, (omega arith, tt))))))))
 
 -- a byte from its digits: `q` stands for the quotients by 2, 4, .., 128, `d` for the digits

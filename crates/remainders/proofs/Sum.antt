@@ -10,8 +10,10 @@ use Rattle.remainders.specs.Division.{shiftIn, divide, remainderOf, synd
 use Rattle.remainders.specs.Messages.{xorBits, AreBits}
 use Rattle.remainders.specs.Correction.{sumOf}
 use Rattle.remainders.proofs.Linear.{divide-xor}
+use Rattle.lists.specs.Lists.{All}
 
 pub zeros-are : (n : ℕ) → AreBits (replicate n 0)
+unfolding All
 zeros-are zero = tt
 zeros-are (suc n) = (omega arith, zeros-are n)
 
@@ -28,14 +30,14 @@ front s h =
     ∙ ap (divide 1) (xor-zeros s)
 
 pub sum-is : (s : List ℕ) → AreBits s → sumOf s ≡ remainderOf s
-unfolding sumOf remainderOf divide shiftIn
+unfolding All sumOf remainderOf divide shiftIn
 sum-is [] h = refl
 sum-is (zero ∷ s) h = sum-is s (h .1)
 sum-is (suc zero ∷ s) h = ap (bitXor (syndrome (length s))) (sum-is s (h .1)) ∙ front s (h .1)
 sum-is (suc (suc b) ∷ s) h = absurd (omega (arith, h .0))
 
 pub xor-are : (s t : List ℕ) → AreBits s → AreBits t → AreBits (xorBits s t)
-unfolding xorBits
+unfolding All xorBits
 xor-are [] t hs ht = tt
 xor-are (x ∷ s) [] hs ht = tt
 xor-are (x ∷ s) (y ∷ t) hs ht = (xor-lt 1 x y (hs .0) (ht .0), xor-are s t (hs .1) (ht .1))

@@ -6,6 +6,7 @@ use mathlib.Core.Bool.{Bool, _||_}
 use mathlib.Core.List.{List, [], _∷_}
 use lib.Bits.{bitXor}
 use lib.Dec.{eqb}
+use Rattle.lists.specs.Lists.{All}
 
 -- the bits of a byte, most significant first, and then the rest
 abbrev pub byteThen : ℕ → List ℕ → List ℕ
@@ -33,10 +34,8 @@ differing m o = xorBits (bits m) (bits o)
 
 -- every element is 0 or 1
 abbrev pub AreBits : List ℕ → Type 0
-AreBits [] = Unit {0}
-AreBits (x ∷ xs) = (x < 2) × AreBits xs
+AreBits xs = All (λ x. x < 2) xs
 
 -- every element is a byte
 abbrev pub AreBytes : List ℕ → Type 0
-AreBytes [] = Unit {0}
-AreBytes (b ∷ bs) = (b < 256) × AreBytes bs
+AreBytes bs = All (λ b. b < 256) bs

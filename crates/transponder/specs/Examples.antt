@@ -5,6 +5,8 @@ use native.Mathlib.Omega.{arith}
 use mathlib.Core.List.{List, [], _∷_, _++_}
 use lib.ListN.{getD, take, replicate}
 use Rattle.lists.specs.Listing.{Row, row}
+use Rattle.lists.specs.Lists.{All}
+use Rattle.remainders.specs.Messages.{AreBytes}
 use Rattle.fields.specs.Building as frames
 use Rattle.fields.specs.Fields.{bitsTo, laid}
 use Rattle.fields.specs.Reading.{readDown}
@@ -25,8 +27,15 @@ abbrev ask : ℕ → ℕ → ℕ → ℕ → ℕ → Call
 ask time pc rr di sd = history.take time 0 (asking pc rr di sd)
 
 -- a message of the bytes 0, 0, 0, 0, 0, 0 and b
+abbrev seven : ℕ → List ℕ
+seven b = 0 ∷ 0 ∷ 0 ∷ 0 ∷ 0 ∷ 0 ∷ b ∷ []
+
+pub seven-bytes : (b : ℕ) → b < 256 → AreBytes (seven b)
+unfolding All
+seven-bytes b h = (omega arith, (omega arith, (omega arith, (omega arith, (omega arith, (omega arith, (h, tt)))))))
+
 abbrev message : (b : ℕ) → b < 256 → Call
-message b h = history.queue (0 ∷ 0 ∷ 0 ∷ 0 ∷ 0 ∷ 0 ∷ b ∷ []) (omega arith, (omega arith, (omega arith, (omega arith, (omega arith, (omega arith, (h, tt)))))))
+message b h = history.queue (seven b) (seven-bytes b h)
 
 -- one message waits, and two
 abbrev one : List Call
