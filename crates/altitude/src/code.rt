@@ -2,7 +2,8 @@
 ghost use mathlib.Core.Path.{_≡_};
 ghost use Prim.Native.Nat.{_+_, _*_, _≤_, _<_};
 ghost use lib.IntN.{subℕ};
-ghost use Rattle.altitude.specs.Code.{bitAt, eleven, eight, grayValue, fiveHundreds, group, hundreds, altitude, numberOf};
+ghost use Rattle.altitude_code.specs.Code.{bitAt, eleven, eight, grayValue, fiveHundreds, group, hundreds, altitude, numberOf};
+use altitude_code::Altitude;
 
 // The places of AC's bits, the last being 0. Q's place is that of D1, which the 100 ft code leaves unused.
 const C1: u32 = 12;
@@ -30,19 +31,6 @@ const D2: u32 = 2;
 const B4: u32 = 1;
 
 const D4: u32 = 0;
-
-// What AC says, or why it is refused.
-pub enum Altitude {
-    Feet(i32),
-    // No altitude.
-    None,
-    // M is set: the code is metric and is not read.
-    Metric,
-    // More than 13 bits.
-    Range,
-    // A pattern that the 100 ft code does not have.
-    Illegal,
-}
 
 // The number of hundreds that each C1 C2 C4 stands for, from 1 to 5, and 0 where it is no pattern of the code.
 const PATTERNS: [u32; 8] = [0, 1, 3, 2, 5, 0, 4, 0];

@@ -19,12 +19,12 @@ use Rattle.letters.proofs.Run as run
 use Rattle.letters.proofs.Signs.{signed-fits}
 use Rattle.letters.specs.declared.answer.Lined.{Lined}
 use Rattle.letters.specs.declared.answer.Number.the-variants.{Is, Not}
-use Rattle.altitude.specs.declared.code.Altitude.{Altitude}
-use Rattle.altitude.specs.declared.code.Altitude.the-variants.{Feet, None, Metric, Range, Illegal}
-use Rattle.altitude.specs.Code.{Form, eleven, fiveHundreds, group, hundreds, feetBy25, feetBy100, formOf, readAs, altitude, numberOf}
-use Rattle.altitude.specs.Code.Form.{allZero, metric, by25, by100, illegal}
+use Rattle.altitude_code.specs.declared.code.Altitude.{Altitude}
+use Rattle.altitude_code.specs.declared.code.Altitude.the-variants.{Feet, None, Metric, Range, Illegal}
+use Rattle.altitude_code.specs.Code.{Form, eleven, fiveHundreds, group, hundreds, feetBy25, feetBy100, formOf, readAs, altitude, numberOf}
+use Rattle.altitude_code.specs.Code.Form.{allZero, metric, by25, by100, illegal}
 use Rattle.feet_lines.specs.Lines.{valueText, answerText, codeText, numberText, wordsText, lineText, feetText}
-use Rattle.altitude.proofs.Reckoned.{eleven-lt, five-lt, hundreds-le}
+use Rattle.altitude_code.proofs.Reckoned.{eleven-lt, five-lt, hundreds-le}
 
 -- ---- the length of a line
 

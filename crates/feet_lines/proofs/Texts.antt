@@ -11,9 +11,9 @@ use Rattle.letters.specs.Number.{numberIn}
 use Rattle.letters.proofs.Laid.{put-then}
 use Rattle.letters.proofs.Words.{words-next, words-end}
 use Rattle.letters.specs.declared.answer.Span.{Span}
-use Rattle.altitude.specs.declared.code.Altitude.{Altitude}
-use Rattle.altitude.specs.declared.code.Altitude.the-variants.{Feet}
-use Rattle.altitude.specs.Code.{altitude, numberOf}
+use Rattle.altitude_code.specs.declared.code.Altitude.{Altitude}
+use Rattle.altitude_code.specs.declared.code.Altitude.the-variants.{Feet}
+use Rattle.altitude_code.specs.Code.{altitude, numberOf}
 use Rattle.feet_lines.specs.Lines.{valueText, answerText, codeText, noCode, numberText, wordsText, lineText}
 
 -- ---- a code's line

@@ -9,9 +9,9 @@ use Rattle.letters.specs.Run.{linesText}
 use Rattle.letters.specs.Number.{numberIn}
 use Rattle.letters.specs.declared.answer.Number.{Number}
 use Rattle.letters.specs.declared.answer.Number.the-variants.{Is, Not}
-use Rattle.altitude.specs.declared.code.Altitude.{Altitude}
-use Rattle.altitude.specs.declared.code.Altitude.the-variants.{Feet, None, Metric, Range, Illegal}
-use Rattle.altitude.specs.Code.{altitude, numberOf}
+use Rattle.altitude_code.specs.declared.code.Altitude.{Altitude}
+use Rattle.altitude_code.specs.declared.code.Altitude.the-variants.{Feet, None, Metric, Range, Illegal}
+use Rattle.altitude_code.specs.Code.{altitude, numberOf}
 
 -- what stands behind the answer's number, and the line's end: the feet, " none", " metric", or nothing for a refusal
 unfoldable pub valueText : Altitude → List ℕ

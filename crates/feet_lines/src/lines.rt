@@ -1,11 +1,11 @@
 // The lines of the program feet, as their very bytes.
 ghost use Rattle.letters.specs.Put.{Put};
 ghost use Rattle.letters.specs.Run.{TookLine};
-ghost use Rattle.altitude.specs.Code.{altitude};
+ghost use Rattle.altitude_code.specs.Code.{altitude};
 ghost use Rattle.feet_lines.specs.Lines.{valueText, answerText, codeText, lineText};
-use altitude::Altitude;
 use altitude::number;
 use altitude::read;
+use altitude_code::Altitude;
 use letters::Lined;
 use letters::Number;
 

@@ -20,7 +20,7 @@ use Rattle.fields.specs.Frames.{front, sealed}
 use Rattle.fields.specs.Building.{selectiveRanged, allCallRanged, selective, allCall, building, allCalling}
 use Rattle.fields.specs.Reading.{readAs, selectiveRead, allCallRead, surveillanceRead, allCallReplyRead}
 use Rattle.fields.specs.Codes.{whose, codeOf}
-use Rattle.altitude.specs.Code.{eleven, feetBy25, grayValue, eight, fiveHundreds, group, hundreds, feetBy100, formOf, altitude}
+use Rattle.altitude_code.specs.Code.{eleven, feetBy25, grayValue, eight, fiveHundreds, group, hundreds, feetBy100, formOf, altitude}
 use Rattle.feet_lines.specs.Lines as feet
 use Rattle.sayings.specs.Texts.{word, numberAt, bytesAt, ofNumber, ofBytes, doneText, refusalText, answerText}
 use Rattle.sayings.specs.Parity.{reckonedText, correctedText, remainderText, overlayText, fixedText, correctText}

@@ -15,7 +15,7 @@ use Rattle.letters.specs.declared.answer.Number.the-variants.{Is, Not}
 use Rattle.letters.proofs.Decimal.{decimal-length}
 use Rattle.letters.proofs.HexMade.{hex-length, hex-of-length}
 use Rattle.letters.proofs.HexRead.{bytes-fit}
-use Rattle.altitude.specs.Code.{altitude}
+use Rattle.altitude_code.specs.Code.{altitude}
 use Rattle.feet_lines.specs.Lines as feet-lines
 use Rattle.feet_lines.proofs.Run.{answer-short}
 use Rattle.remainders.specs.Messages.{bits, whole}

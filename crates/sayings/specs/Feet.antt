@@ -1,7 +1,7 @@
 -- The line `feet AC`.
 use Prim.Native.Nat.{ℕ}
 use mathlib.Core.List.{List}
-use Rattle.altitude.specs.Code.{altitude}
+use Rattle.altitude_code.specs.Code.{altitude}
 use Rattle.feet_lines.specs.Lines as feet-lines
 use Rattle.sayings.specs.Texts.{numberAt, withNumber}
 

@@ -6,8 +6,8 @@ use mathlib.Core.Bool.{not}
 use lib.Dec.{eqb}
 use lib.IntN.{subℕ}
 use Rattle.lists.specs.Lists.{countBelow}
-use Rattle.altitude.specs.Code.{Form, bitAt, formOf, feetBy100}
-use Rattle.altitude.specs.Code.Form.{allZero, metric, by25, by100, illegal}
+use Rattle.altitude_code.specs.Code.{Form, bitAt, formOf, feetBy100}
+use Rattle.altitude_code.specs.Code.Form.{allZero, metric, by25, by100, illegal}
 
 -- the forms, told apart by a number for each
 abbrev pub nth : Form → ℕ

@@ -5,8 +5,8 @@ use mathlib.Core.List.{[], _∷_}
 use lib.Dec.{eqb, ltb}
 use lib.IntN.{ℤ, subℕ}
 use Rattle.lists.specs.Lists.{pick, spelled}
-use Rattle.altitude.specs.declared.code.Altitude.{Altitude}
-use Rattle.altitude.specs.declared.code.Altitude.the-variants.{Feet, None, Metric, Range, Illegal}
+use Rattle.altitude_code.specs.declared.code.Altitude.{Altitude}
+use Rattle.altitude_code.specs.declared.code.Altitude.the-variants.{Feet, None, Metric, Range, Illegal}
 
 -- ---- the bits
 

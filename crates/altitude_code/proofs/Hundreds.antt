@@ -13,9 +13,9 @@ use Rattle.lists.proofs.Signed.{same-difference, difference-same}
 use borrow.Author.Tests.{eqb-true, ltb-true}
 use Rattle.lists.specs.Lists.{pick, every, countBelow}
 use Rattle.lists.proofs.Every.{every-at, equal-below, less-below}
-use Rattle.altitude.specs.Code.{Form, formOf, group, hundreds, fiveHundreds, eight, grayValue, feetBy100}
-use Rattle.altitude.specs.Code.Form.{allZero, metric, by25, by100, illegal}
-use Rattle.altitude.specs.Claims.{nth, differing, Says, HundredFootCode}
+use Rattle.altitude_code.specs.Code.{Form, formOf, group, hundreds, fiveHundreds, eight, grayValue, feetBy100}
+use Rattle.altitude_code.specs.Code.Form.{allZero, metric, by25, by100, illegal}
+use Rattle.altitude_code.specs.Claims.{nth, differing, Says, HundredFootCode}
 
 -- ---- a code's hundred, and a hundred's code
 

@@ -10,7 +10,7 @@ use lib.Dec.{eqb}
 use lib.ListN.{getD}
 use Rattle.lists.specs.Lists.{pick, every, spelled}
 use Rattle.lists.proofs.Every.{equal-below, less-below}
-use Rattle.altitude.specs.Code.{C1, A1, C2, A2, C4, A4, B1, B2, D2, B4, D4, grayValue, eleven, eight, fiveHundreds, patternOf, group, hundreds}
+use Rattle.altitude_code.specs.Code.{C1, A1, C2, A2, C4, A4, B1, B2, D2, B4, D4, grayValue, eleven, eight, fiveHundreds, patternOf, group, hundreds}
 
 -- the code's way back from Gray code, tried on all 256 numbers of eight bits
 abbrev pub folded : ℕ → ℕ

@@ -2,8 +2,8 @@
 use Prim.Native.Nat.{ℕ, _≤_, _<_}
 use mathlib.Core.Path.{_≡_}
 use borrow.Author.Tests.{lt-ltb, le-ltb, eq-eqb, ne-eqb}
-use Rattle.altitude.specs.Code.{M, Q, group, feetBy25, feetBy100, formOf, altitude}
-use Rattle.altitude.specs.declared.code.Altitude.the-variants.{Feet, None, Metric, Range, Illegal}
+use Rattle.altitude_code.specs.Code.{M, Q, group, feetBy25, feetBy100, formOf, altitude}
+use Rattle.altitude_code.specs.declared.code.Altitude.the-variants.{Feet, None, Metric, Range, Illegal}
 
 module _ (ac : ℕ) where
   pub says-range : 8191 < ac → Range ≡ altitude ac
