@@ -10,7 +10,7 @@ use lib.ListN.{replicate}
 use Rattle.letters.specs.Put.{decimalIn, decimal, laid, Put}
 use Rattle.letters.specs.Signed.{signedDecimal}
 use Rattle.letters.specs.Line.{blank, inWord, newline, inLine, grown, parts, full, linesOf, wordsOf, sameAs, front, runEnd}
-use Rattle.letters.specs.Line.{lineEnd, lineAfter, lineAt, wordAt, within, NthWord}
+use Rattle.letters.specs.Line.{lineEnd, lineAfter, lineAt, wordAt, nthAt, within, NthWord}
 use Rattle.letters.specs.Number.{between, isDigit, allDigits, valueAfter, numberIn}
 use Rattle.letters.specs.Hex.{hexDigit, hexIn, hexOf, hexValue, allHex, pairs, isHex, bytesIn}
 use Rattle.letters.specs.Plain.{plain}
@@ -98,12 +98,12 @@ words-at = (refl, refl, refl)
 
 -- the words are numbered from 0; where there is none, the word is empty
 second-word : NthWord line 1 (record { from = 3; to = 5 })
-unfolding within wordsOf full parts blank grown
-second-word = record { text = refl; order = omega arith; fits = omega arith }
+unfolding nthAt wordAt runEnd front inWord within wordsOf full parts blank grown
+second-word = record { is = refl; text = refl; order = omega arith; fits = omega arith }
 
 no-word : NthWord line 2 (record { from = 7; to = 7 })
-unfolding within wordsOf full parts blank grown
-no-word = record { text = refl; order = omega arith; fits = omega arith }
+unfolding nthAt wordAt runEnd front inWord within wordsOf full parts blank grown
+no-word = record { is = refl; text = refl; order = omega arith; fits = omega arith }
 
 names : (sameAs (plain "up") (plain "up") ≡ true) × (sameAs (plain "u") (plain "up") ≡ false)
     × (sameAs (plain "ups") (plain "up") ≡ false) × (sameAs (plain "Up") (plain "up") ≡ false)

@@ -1,5 +1,5 @@
 -- Lines of an input and words of a line.
-use Prim.Native.Nat.{ℕ, suc, _+_, _-_, _≤_, min}
+use Prim.Native.Nat.{ℕ, zero, suc, _+_, _-_, _≤_, min}
 use mathlib.Core.Path.{_≡_}
 use mathlib.Core.List.{List, [], _∷_}
 use mathlib.Core.Bool.{Bool, true, false, not, _||_, _&&_}
@@ -81,6 +81,11 @@ lineAt s at = take (lineEnd s at - at) (drop at s)
 unfoldable pub wordAt : List ℕ → ℕ → Span
 wordAt line at = record { from = runEnd blank line at; to = runEnd inWord line (runEnd blank line at) }
 
+-- the k-th word, from 0: each is looked for where the one before it ends
+unfoldable pub nthAt : List ℕ → ℕ → Span
+nthAt line zero = wordAt line 0
+nthAt line (suc k) = wordAt line (nthAt line k .to)
+
 -- what stands in a span
 unfoldable pub within : List ℕ → Span → List ℕ
 within line w = take (w .to - w .from) (drop (w .from) line)
@@ -106,6 +111,7 @@ pub record NextWord (line : List ℕ) (at : ℕ) (r : Span) : Type 0 where
 
 -- the k-th word of a line, from 0: the empty one where there is none
 pub record NthWord (line : List ℕ) (k : ℕ) (r : Span) : Type 0 where
+  pub is : r ≡ nthAt line k
   pub text : within line r ≡ getD (wordsOf line) k []
   pub order : r .from ≤ r .to
   pub fits : r .to ≤ length line

@@ -9,7 +9,7 @@ use lib.ListN.{length, getD, drop, length-drop}
 use lib.Seq.{drop-drop, getD-drop}
 use borrow.Author.Tests.{ltb-true, ltb-false}
 use Rattle.letters.specs.declared.answer.Span.{Span}
-use Rattle.letters.specs.Line.{wordsOf, wordAt, within, NextWord, NthWord}
+use Rattle.letters.specs.Line.{wordsOf, wordAt, nthAt, within, NextWord, NthWord}
 use Rattle.letters.proofs.Words.{word-to, word-from, word-after, words-from, words-next, words-end}
 
 module _ (line : List ℕ) (at : ℕ) where
@@ -41,11 +41,17 @@ module _ (line : List ℕ) (at : ℕ) where
 pub record Come (line : List ℕ) (i : ℕ) (w : Span) : Type 0 where
   pub at : ℕ
   pub is : w ≡ wordAt line at
+  pub nth : w ≡ nthAt line i
   pub rest : drop i (wordsOf line) ≡ wordsOf (drop at line)
 
 module _ (line : List ℕ) where
+  nth-next : (i : ℕ) → nthAt line (i + 1) ≡ wordAt line (nthAt line i .to)
+  unfolding nthAt
+  nth-next i = let e : i + 1 ≡ suc i = omega arith in rw e
+
   pub come-first : (w : Span) → NextWord line 0 w → Come line 0 w
-  come-first w n = record { at = 0; is = n .is; rest = refl }
+  unfolding nthAt
+  come-first w n = record { at = 0; is = n .is; nth = n .is; rest = refl }
 
   pub come-next : (i : ℕ) (w v : Span) → Come line i w → NextWord line (w .to) v → Come line (i + 1) v
   come-next i w v c n =
@@ -53,12 +59,14 @@ module _ (line : List ℕ) where
       record {
         at = wordAt line (c .at) .to;
         is = rw e at (n .is);
+        nth = n .is ∙ ap (λ (x : Span). wordAt line (x .to)) (c .nth) ∙ sym (nth-next i);
         rest = sym (drop-drop 1 i (wordsOf line)) ∙ ap (drop 1) (c .rest) ∙ behind line (c .at);
       }
 
   pub come-to : (k : ℕ) (w : Span) → Come line k w → NthWord line k w
   come-to k w c =
       record {
+        is = c .nth;
         text = rw (c .is) (first line (c .at) ∙ ap (λ (l : List (List ℕ)). getD l 0 []) (sym (c .rest)) ∙ getD-drop k (wordsOf line) 0 [] ∙ ap (λ (j : ℕ). getD (wordsOf line) j []) (omega arith));
         order = rw (c .is) (word-from line (c .at));
         fits = rw (c .is) (word-to line (c .at));
