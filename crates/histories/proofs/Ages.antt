@@ -53,9 +53,9 @@ passed-over n x y e = rw (ne-eqb n 0 e)
 abbrev pub Force : Station → List Ask → Type 0
 Force s f = map askOf (entriesOf (s .plan)) ≡ f
 
-nothing-asked : (h : Setup) → Force (emptied h) []
+nothing-asked : (h : Setup) (s : Station) → Force (emptied h s) []
 unfolding emptied
-nothing-asked h = refl
+nothing-asked h s = refl
 
 module _ (s : Station) (f : List Ask) (h : Force s f) where
   abbrev Forced : Call → Answer → Type 0
@@ -74,7 +74,7 @@ module _ (s : Station) (f : List Ask) (h : Force s f) where
 
   force-next : (c : Call) (r : Answer) → Came s c r → Forced c r
   force-next c r (refusal k z e) = subst (Forced c) (sym e) (h ∙ sym (passed-over k (asksAfter c (asksShown s c) f) f z))
-  force-next c r (did-setup x a e) = subst (Forced (setup x)) (sym e) (nothing-asked x)
+  force-next c r (did-setup x a e) = subst (Forced (setup x)) (sym e) (nothing-asked x s)
   force-next c r (did-new a near far g n e) = subst (Forced (new a near far)) (sym e) h
   force-next c r (did-remove a e) = subst (Forced (remove a)) (sym e) (without-force a)
   force-next c r (did-move a near far g n e) = subst (Forced (move a near far)) (sym e) h
@@ -84,8 +84,8 @@ module _ (s : Station) (f : List Ask) (h : Force s f) where
   force-next c r (did-report a e) = subst (Forced (report a)) (sym e) h
 
 pub in-force : (cs : List Call) → Force (after cs) (inForce (events cs))
-unfolding after events inForce emptied
-in-force [] = nothing-asked (blank .setup)
+unfolding after events inForce emptied blank
+in-force [] = nothing-asked (blank .setup) blank
 in-force (c ∷ cs) = force-next (after cs) (inForce (events cs)) (in-force cs) c (answer (after cs) c) (came (after cs) c)
 
 -- ---- values and ages
@@ -209,9 +209,9 @@ module _ (i : Kind) (a : ℕ) where
             h)
         go false m = λ k. h k ∙ ap shown (sym (none-held (eqb (q .request .address) a) (draws i (holdsID (expected (q .request)))) refl m k))
 
-  nothing : (h : Setup) → Agree i a (targetsOf (emptied h .targets)) never
+  nothing : (h : Setup) (s : Station) → Agree i a (targetsOf (emptied h s .targets)) never
   unfolding emptied
-  nothing h k = absurd (false≢true (sym (has-nil a) ∙ k))
+  nothing h s k = absurd (false≢true (sym (has-nil a) ∙ k))
 
   -- ---- call by call
   module _ (s : Station) (f : List Ask) (x : Said) (hf : Force s f) (h : Agree i a (targetsOf (s .targets)) x) where
@@ -241,7 +241,7 @@ module _ (i : Kind) (a : ℕ) where
     agree-next c r (refusal k z e) =
         subst (Next c (outputShown s c)) (sym e)
         (subst (λ (w : Said). Agree i a (targetsOf (s .targets)) w) (sym (passed-over k (saidAfter i a c (outputShown s c) f x) x z)) h)
-    agree-next c r (did-setup g ok e) = subst (Next (setup g) []) (sym e) (nothing g)
+    agree-next c r (did-setup g ok e) = subst (Next (setup g) []) (sym e) (nothing g s)
     agree-next c r (did-new b near far g n e) =
         subst (Next (new b near far) []) (sym e)
         (subst (λ (l : List Target). Agree i a l (pick (eqb b a) never x)) (sym (targets-are (targetsOf (s .targets) ++ (fresh b near far ∷ [])) (s .targets)))
@@ -260,8 +260,8 @@ module _ (i : Kind) (a : ℕ) where
     agree-next c r (did-report b e) = subst (Next (report b) []) (sym e) h
 
   pub agree : (cs : List Call) → Agree i a (targetsOf (after cs .targets)) (lastSaid i a (events cs))
-  unfolding after events lastSaid emptied
-  agree [] = nothing (blank .setup)
+  unfolding after events lastSaid emptied blank
+  agree [] = nothing (blank .setup) blank
   agree (c ∷ cs) = agree-next (after cs) (inForce (events cs)) (lastSaid i a (events cs)) (in-force cs) (agree cs) c (answer (after cs) c) (came (after cs) c)
 
 -- ---- a report that is given tells just what the history says

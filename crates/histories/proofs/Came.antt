@@ -26,7 +26,7 @@ use Rattle.histories.specs.History.{Call, setup, new, remove, move, requ
 
 pub data Came (s : Station) : Call → Answer → Type 0 where
   refusal : {c : Call} {r : Answer} (n : ℕ) → (n ≡ 0 → ⊥) → r ≡ refused n s → Came s c r
-  did-setup : {r : Answer} (h : Setup) → judged h ≡ 0 → r ≡ done (emptied h) → Came s (setup h) r
+  did-setup : {r : Answer} (h : Setup) → judged h ≡ 0 → r ≡ done (emptied h s) → Came s (setup h) r
   did-new : {r : Answer} (a near far : ℕ) → targetRanged a near far (s .setup .reach) ≡ true → inList a (s .targets) ≡ false → r ≡ done (withTargets (targetsWith (fresh a near far) (s .targets)) s) → Came s (new a near far) r
   did-remove : {r : Answer} (a : ℕ) → r ≡ done (without a s) → Came s (remove a) r
   did-move : {r : Answer} (a near far : ℕ) → targetRanged a near far (s .setup .reach) ≡ true → inList a (s .targets) ≡ true → r ≡ done (withTargets (targetsPut a (edged near far (targetAt a (s .targets))) (s .targets)) s) → Came s (move a near far) r
@@ -78,7 +78,7 @@ cut x = record { number = x .number; station = x .station }
 pub came : (s : Station) (c : Call) → Came s c (answer s c)
 unfolding setUp newTarget removed moved requested reported
 came s (setup h) =
-    test s (setup h) (not (eqb (judged h) 0)) (judged h) (done (emptied h)) (λ t. eqb-false (judged h) 0 (not-true (eqb (judged h) 0) t))
+    test s (setup h) (not (eqb (judged h) 0)) (judged h) (done (emptied h s)) (λ t. eqb-false (judged h) 0 (not-true (eqb (judged h) 0) t))
     (λ f. did-setup h (eqb-true (judged h) 0 (not-false (eqb (judged h) 0) f)) refl)
 came s (new a near far) =
     test s (new a near far) (not (targetRanged a near far (s .setup .reach))) 2 _ (numbered 2 refl)

@@ -109,9 +109,9 @@ waits-on t u w f h = all-map (Waits t) (Waits u) (λ q k. (k .0, f (q .address) 
 entries-on : (t u : Targets) (p : Plan) → Stays t u → Entries t p → Entries u p
 entries-on t u p f h = all-map (Entered t) (Entered u) (λ e k. (k .0, λ o. f (e .ask .request .address) (k .1 o))) (entriesOf p) h
 
-none : (h : Setup) → judged h ≡ 0 → Kept (emptied h)
+none : (h : Setup) (s : Station) → judged h ≡ 0 → Kept (emptied h s)
 unfolding emptied All
-none h a = record { shares = a; reach = tt; waiting = tt; sixteen = λ u. omega (arith, count-nil (isOf u)); entries = tt }
+none h s a = record { shares = a; reach = tt; waiting = tt; sixteen = λ u. omega (arith, count-nil (isOf u)); entries = tt }
 
 -- another target in the place of one of the same address
 put-stays : (t u : Targets) (b : ℕ) (y : Target) → y .address ≡ b → targetsOf u ≡ set (targetsOf t) (placeIn (targetsOf t) b) y → Stays t u
@@ -299,12 +299,12 @@ reply-keeps s k m h =
     }
 
 blank-accepted : judged (blank .setup) ≡ 0
-unfolding judged sharesFit emptied every total
+unfolding judged sharesFit blank every total
 blank-accepted = refl
 
 pub kept-next : (s : Station) → Kept s → (c : Call) (r : Answer) → Came s c r → Kept (r .station)
 kept-next s h c r (refusal k z e) = subst (λ (x : Answer). Kept (x .station)) (sym e) h
-kept-next s h c r (did-setup x a e) = subst (λ (x : Answer). Kept (x .station)) (sym e) (none x a)
+kept-next s h c r (did-setup x a e) = subst (λ (x : Answer). Kept (x .station)) (sym e) (none x s a)
 kept-next s h c r (did-new a near far g f e) =
     subst (λ (x : Answer). Kept (x .station)) (sym e)
     (let k = targets-are (targetsOf (s .targets) ++ (fresh a near far ∷ [])) (s .targets) in
@@ -340,8 +340,8 @@ kept-next s h c r (did-report a e) = subst (λ (x : Answer). Kept (x .station)) 
 
 -- every history keeps it
 pub always-kept : (cs : List Call) → Kept (after cs)
-unfolding after emptied
-always-kept [] = none (blank .setup) blank-accepted
+unfolding after emptied blank
+always-kept [] = none (blank .setup) blank blank-accepted
 always-kept (c ∷ cs) = kept-next (after cs) (always-kept cs) c (answer (after cs) c) (came (after cs) c)
 
 -- ---- refusal 6 to a request, as the paper has it: the slots never run out before

@@ -146,7 +146,7 @@ reply-number s h k tag msg marks out =
 -- ---- the theorem
 pub numbers : (cs : List Call) (c : Call) → answer (after cs) c .number ≡ given (checks (after cs) c)
 unfolding given calls.setUp calls.newTarget calls.removed calls.moved calls.requested calls.reported
-numbers cs (setup h) = given-as (after cs) (shares.judged h) (emptied h) ∙ judged-is h
+numbers cs (setup h) = given-as (after cs) (shares.judged h) (emptied h (after cs)) ∙ judged-is h
 numbers cs (new a near far) =
     check (after cs) (not (calls.targetRanged a near far (after cs .setup .reach))) 2 _ _
     (λ _. check (after cs) (inList a (after cs .targets)) 5 _ _

@@ -28,7 +28,7 @@ done s = record { number = 0; station = s }
 
 -- ---- setup: 2 or 3, else "a setup empties everything"
 unfoldable pub setUp : Station → Setup → Answer
-setUp s h = pick (not (eqb (judged h) 0)) (refused (judged h) s) (done (emptied h))
+setUp s h = pick (not (eqb (judged h) 0)) (refused (judged h) s) (done (emptied h s))
 
 -- ---- ranges
 -- "near ≤ far ≤ R"

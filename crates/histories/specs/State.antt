@@ -136,16 +136,22 @@ noAsk = record { request = noRequest; near = 0; far = 0 }
 abbrev pub noEntry : Entry
 noEntry = record { ask = noAsk; start = 0; mark = Open }
 
--- nothing held, nothing waiting, no plan, and this setup
-unfoldable pub emptied : Setup → Station
-emptied h =
+-- "before a setup L, R, limit, guarantees and ceilings are 0"; nothing held, nothing waiting, no plan
+unfoldable pub blank : Station
+blank =
     record {
       targets = record { list = replicate 64 (fresh 0 0 0); n = 0 };
       waiting = record { list = replicate 128 noRequest; n = 0 };
       plan = record { list = replicate 128 noEntry; n = 0; tag = 0 };
-      setup = h;
+      setup = record { period = 0; reach = 0; limit = 0; guarantee = replicate 8 0; ceiling = replicate 8 0 };
     }
 
--- "before a setup L, R, limit, guarantees and ceilings are 0"
-abbrev pub blank : Station
-blank = emptied (record { period = 0; reach = 0; limit = 0; guarantee = replicate 8 0; ceiling = replicate 8 0 })
+-- "a setup empties everything": nothing held, nothing waiting, no plan, and this setup; the slots are as they were
+unfoldable pub emptied : Setup → Station → Station
+emptied h s =
+    record {
+      targets = record { list = s .targets .list; n = 0 };
+      waiting = record { list = s .waiting .list; n = 0 };
+      plan = record { list = s .plan .list; n = 0; tag = 0 };
+      setup = h;
+    }

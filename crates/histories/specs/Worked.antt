@@ -77,5 +77,5 @@ listing =
 
 -- the one claim
 pub listing-agrees : Agrees listing
-unfolding countOf total every indexOf filter over selectiveRanged sentFor replyFor apart clear clearOf fits first place sharesFit judged plans.tried plans.pass plans.alone plans.turns plans.plan emptied setUp targetRanged requestRanged unitFull newTarget without removed moved requested asked boardFor nextPlan after
+unfolding countOf total every indexOf filter over selectiveRanged sentFor replyFor apart clear clearOf fits first place sharesFit judged plans.tried plans.pass plans.alone plans.turns plans.plan blank emptied setUp targetRanged requestRanged unitFull newTarget without removed moved requested asked boardFor nextPlan after
 listing-agrees = (refl, (refl, (refl, (refl, (refl, (refl, (refl, (refl, (refl, tt)))))))))

@@ -9,13 +9,13 @@ pub enum Value {
     Heard { value: u16, age: u16 },
 }
 
-// A target, its near and far edges in round-trip ticks, and what it said.
+// A target: what it said, and its near and far edges in round-trip ticks.
 pub struct Target {
+    pub ac: Value,
+    pub id: Value,
     pub address: u32,
     pub near: u16,
     pub far: u16,
-    pub ac: Value,
-    pub id: Value,
 }
 
 // The target list: the first n of the slots.

@@ -16,3 +16,4 @@ pub mod Copied
 pub mod Mapped
 pub mod Signed
 pub mod Xor
+pub mod Same

@@ -1,6 +1,7 @@
 // The station before a setup, and the setup, which empties everything.
 ghost use mathlib.Core.Path.{_≡_};
-ghost use Rattle.histories.specs.State.{emptied, blank};
+ghost use lib.ListN.{replicate};
+ghost use Rattle.histories.specs.State.{fresh, emptied, blank};
 ghost use Rattle.histories.specs.Calls.{setUp};
 use crate::entries::no_entry;
 use crate::targets::fresh;
@@ -8,20 +9,36 @@ use crate::waiting::no_request;
 use histories::Answer;
 use histories::Plan;
 use histories::Station;
+use histories::Target;
 use histories::Targets;
 use histories::Waiting;
 use plans::Setup;
 
-// Nothing held, nothing waiting, no plan, and this setup.
-fn emptied(setup: Setup) -> Station
-    ensures { λ r. ⌜ r ≡ emptied setup ⌝ }
+// The slots of an empty target list. The loop writes what stands there already: it keeps the list whole in memory, where 64 stores at
+// known places would let the compiler take it apart and copy it slot by slot in every call (docs/PERFORMANCE.md).
+fn no_targets() -> [Target; 64]
+    ensures { λ r. ⌜ r ≡ replicate 64 (fresh 0 0 0) ⌝ }
 {
     let x = fresh(0, 0, 0);
-    let xs = [x; 64];
+    let mut list = [x; 64];
+    let mut i: usize = 0;
+    while i < 128 {
+        list[i / 2] = x;
+        i += 1;
+    }
+    list
+}
+
+// The station before any setup: L, R, limit, guarantees and ceilings are 0, and every slot of a list is the same.
+pub fn blank() -> Station
+    ensures { λ r. ⌜ r ≡ blank ⌝ }
+{
+    let xs = no_targets();
     let q = no_request();
     let qs = [q; 128];
     let e = no_entry();
     let es = [e; 128];
+    let zeros = [0u8; 8];
     let t = Targets { list: xs, n: 0 };
     let w = Waiting { list: qs, n: 0 };
     let p = Plan {
@@ -29,27 +46,32 @@ fn emptied(setup: Setup) -> Station
         n: 0,
         tag: 0,
     };
-    Station {
-        targets: t,
-        waiting: w,
-        plan: p,
-        setup: setup,
-    }
-}
-
-// The station before any setup: L, R, limit, guarantees and ceilings are 0.
-pub fn blank() -> Station
-    ensures { λ r. ⌜ r ≡ blank ⌝ }
-{
-    let zeros = [0u8; 8];
-    let setup = Setup {
+    let h = Setup {
         period: 0,
         reach: 0,
         limit: 0,
         guarantee: zeros,
         ceiling: zeros,
     };
-    emptied(setup)
+    Station {
+        targets: t,
+        waiting: w,
+        plan: p,
+        setup: h,
+    }
+}
+
+// Nothing held, nothing waiting, no plan, and this setup.
+fn emptied(s: Station, setup: Setup) -> Station
+    ensures { λ r. ⌜ r ≡ emptied setup s ⌝ }
+{
+    let mut out = s;
+    out.targets.n = 0;
+    out.waiting.n = 0;
+    out.plan.n = 0;
+    out.plan.tag = 0;
+    out.setup = setup;
+    out
 }
 
 // A setup that is judged good empties everything; a refused one changes nothing.
@@ -63,7 +85,7 @@ pub fn set_up(s: Station, setup: Setup) -> Answer
             station: s,
         };
     }
-    let out = emptied(setup);
+    let out = emptied(s, setup);
     Answer {
         number: 0,
         station: out,

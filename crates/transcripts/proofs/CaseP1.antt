@@ -12,7 +12,7 @@ use Rattle.plans.specs.Plan.{tried, pass, alone, turns, plan}
 use Rattle.fields.specs.Building.{selectiveRanged}
 use Rattle.records.specs.Records.{bodyLength, numberAt, recordAt}
 use Rattle.records.specs.Fields.{eightAt}
-use Rattle.histories.specs.State.{emptied}
+use Rattle.histories.specs.State.{blank, emptied}
 use Rattle.histories.specs.Calls.{setUp, targetRanged, requestRanged, unitFull, newTarget, requested, reported}
 use Rattle.histories.specs.Planning.{asked, boardFor, nextPlan}
 use Rattle.transcripts.specs.Lines.{line, answerLine, entryLine, entryLines, valueWord, ageWord, reportLine}
@@ -46,10 +46,10 @@ case third =
     ++ (8 ∷ 0 ∷ 0 ∷ 1 ∷ [])
 
 case-p1 : transcript (case 3) ≡ plain "1 1 0\n2 2 0\n3 2 0\n4 2 0\n5 4 0\n6 4 0\n7 4 0\n8 5 0\n0 0 1 0 2530 3022\n1 0 2 135 1665 1927\n2 1 3 397 1927 2189\n9 8 0\n- - - -\n"
-unfolding every countOf indexOf filter over total decimalIn decimal sentFor replyFor apart clear clearOf fits first place sharesFit judged tried pass alone turns plan selectiveRanged bodyLength numberAt recordAt eightAt emptied setUp targetRanged requestRanged unitFull newTarget requested reported asked boardFor nextPlan line answerLine entryLine entryLines valueWord ageWord reportLine obeyed outcome goesOn nextPlace textFrom transcript
+unfolding every countOf indexOf filter over total decimalIn decimal sentFor replyFor apart clear clearOf fits first place sharesFit judged tried pass alone turns plan selectiveRanged bodyLength numberAt recordAt eightAt blank emptied setUp targetRanged requestRanged unitFull newTarget requested reported asked boardFor nextPlan line answerLine entryLine entryLines valueWord ageWord reportLine obeyed outcome goesOn nextPlace textFrom transcript
 case-p1 = refl
 
 -- with the third request for address 2 its start is 1927
 case-p1-variant : transcript (case 2) ≡ plain "1 1 0\n2 2 0\n3 2 0\n4 2 0\n5 4 0\n6 4 0\n7 4 0\n8 5 0\n0 0 1 0 2530 3022\n1 0 2 135 1665 1927\n2 1 2 1927 3457 3719\n9 8 0\n- - - -\n"
-unfolding every countOf indexOf filter over total decimalIn decimal sentFor replyFor apart clear clearOf fits first place sharesFit judged tried pass alone turns plan selectiveRanged bodyLength numberAt recordAt eightAt emptied setUp targetRanged requestRanged unitFull newTarget requested reported asked boardFor nextPlan line answerLine entryLine entryLines valueWord ageWord reportLine obeyed outcome goesOn nextPlace textFrom transcript
+unfolding every countOf indexOf filter over total decimalIn decimal sentFor replyFor apart clear clearOf fits first place sharesFit judged tried pass alone turns plan selectiveRanged bodyLength numberAt recordAt eightAt blank emptied setUp targetRanged requestRanged unitFull newTarget requested reported asked boardFor nextPlan line answerLine entryLine entryLines valueWord ageWord reportLine obeyed outcome goesOn nextPlace textFrom transcript
 case-p1-variant = refl
