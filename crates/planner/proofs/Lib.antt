@@ -2,4 +2,4 @@
 pub mod Steps
 pub mod Rows
 pub mod Tallies
-pub mod Sweeps
+pub mod Passing

@@ -140,22 +140,7 @@ shown-more rows n es es′ e small l same last h =
           (le-or-lt n i);
     }
 
--- a row more for an entry that is there
-any-default : (es : List Entry) (i : ℕ) (c d : Entry) → i < length es → getD es i c ≡ getD es i d
-any-default [] i c d l = absurd (omega arith)
-any-default (e ∷ es) zero c d l = refl
-any-default (e ∷ es) (suc i) c d l = any-default es i c d (omega arith)
-
-noted-as : (e : Entry) (i : ℕ) (rows : List ℕ) → noted (entryAt (e .ask) (e .start)) i rows ≡ noted e i rows
-unfolding noted
-noted-as e i rows = refl
-
-pub shown-next : (rows after : List ℕ) (n : ℕ) (es : List Entry) (d : Entry) → after ≡ noted (entryAt (getD es n d .ask) (getD es n d .start)) n rows → listens (entryAt (getD es n d .ask) (getD es n d .start)) .hi ≤ 200000 → n < length es → n < 128 → Shown rows n es → Shown after (n + 1) es
-shown-next rows after n es d q small k l h =
-    subst (λ (v : List ℕ). Shown v (n + 1) es) (sym (q ∙ noted-as (getD es n d) n rows))
-    (shown-more rows n es es (getD es n d) small l (λ i d g. refl) (λ c. any-default es n c d k) h)
-
--- and for one that is placed behind them
+-- a row more for an entry that is placed behind the others
 pub shown-placed : (rows after : List ℕ) (n : ℕ) (es : List Entry) (e x : Entry) → after ≡ noted e n rows → x ≡ e → listens e .hi ≤ 200000 → n < length es → n < 128 → Shown rows n es → Shown after (n + 1) (set es n x)
 shown-placed rows after n es e x q y small k l h =
     rw (q, y)

@@ -42,10 +42,6 @@ tallied-more c es e h = record { eight = length-set c v (share c v + 1) ∙ h .e
         ∙ h .each u l
         ∙ sym (count-snoc-no (λ (e : Entry). ofUnit u (e .ask)) es e q)
 
--- the same of the front of an array
-pub tallied-next : (c c′ : List ℕ) (es : List Entry) (i : ℕ) (d : Entry) → c′ ≡ set c (getD es i d .ask .request .unit) (share c (getD es i d .ask .request .unit) + 1) → i < length es → Tallied c (take i es) → Tallied c′ (take (i + 1) es)
-tallied-next c c′ es i d e l h = rw (e, front-take (i + 1) es i d (omega arith)) (tallied-more c (take i es) (getD es i d) h)
-
 -- the counts are small
 pub tallied-small : (c : List ℕ) (es : List Entry) (u : ℕ) → length es ≤ 128 → Tallied c es → share c u < 255
 tallied-small c es u n h =

@@ -12,7 +12,9 @@ use Rattle.plans.specs.declared.plan.Place.{Place}
 use Rattle.plans.specs.Exchange.{Course, sentLong, earliest, longest, exchangeOf, entryAt, transmits, listens, clear}
 use Rattle.plans.specs.Fits.{place}
 use Rattle.plans.specs.Shares.{share}
-use Rattle.plans.specs.Plan.{taken}
+use Rattle.lists.specs.Lists.{over}
+use Rattle.plans.specs.declared.plan.Planned.{Planned}
+use Rattle.plans.specs.Plan.{Board, taken, passOver, placedIn, waitingIn, boardOf, planned}
 
 -- an exchange of the definitions, as the code holds it
 abbrev pub held : Course → Exchange
@@ -83,3 +85,16 @@ Placing L a n rows r = (es : List Entry) → n ≤ length es → Shown rows n es
 pub record Tallied (counts : List ℕ) (es : List Entry) : Type 0 where
   pub eight : length counts ≡ 8
   pub each : (u : ℕ) → u < 8 → share counts u ≡ taken u es
+
+-- a pass over what waits in b gave r: the board of the definition in the slots of b; the rows show its entries, and the counts are theirs
+pub record PassedOver (L : ℕ) (limits : List ℕ) (b r : Planned) (rows counts : List ℕ) : Type 0 where
+  pub answer : r ≡ planned (passOver L limits (boardOf b)) (b .entries) (b .asks)
+  pub shown : Shown rows (r .placed) (r .entries)
+  pub tallied : Tallied counts (placedIn r)
+
+-- the slots hold a board: its entries over those of the old plan, and what waits at the front
+pub record Laid (x : Board) (old : List Entry) (r : Planned) : Type 0 where
+  pub placed : r .placed ≡ length (x .placed)
+  pub entries : r .entries ≡ over (x .placed) old
+  pub waiting : r .waiting ≡ length (x .waiting)
+  pub asks : waitingIn r ≡ x .waiting

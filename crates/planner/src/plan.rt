@@ -4,8 +4,9 @@ ghost use Prim.Native.Nat.{_+_, _≤_, _<_, min};
 ghost use lib.ListN.{length, take, set};
 ghost use Rattle.plans.specs.Exchange.{entryAt, listens};
 ghost use Rattle.plans.specs.Shares.{share};
-ghost use Rattle.plans.specs.Plan.{alone, passOver, plan, boardOf, asksOf, planned};
-ghost use Rattle.planner.specs.Promises.{Tallied, noted, Shown};
+ghost use Rattle.lists.specs.Lists.{over};
+ghost use Rattle.plans.specs.Plan.{alone, plan, placedIn, asksOf, planned};
+ghost use Rattle.planner.specs.Promises.{Tallied, noted, Shown, PassedOver, Laid};
 use crate::entry::entry_at;
 use crate::exchange::Exchange;
 use crate::exchange::wide;
@@ -50,21 +51,6 @@ fn one_more(counts: &mut [u8; 8], unit: u8)
     counts[u] = counts[u] + 1;
 }
 
-// How many of the n entries each unit has.
-fn tally(n: usize, entries: [Entry; 128]) -> [u8; 8]
-    requires { ⌜ n ≤ 128 ⌝ }
-    ensures { λ r. ⌜ Tallied r (take n entries) ⌝ }
-{
-    let mut counts = [0u8; 8];
-    let mut i: usize = 0;
-    while i < n {
-        let e = entries[i];
-        one_more(&mut counts, e.ask.request.unit);
-        i += 1;
-    }
-    counts
-}
-
 // Writes row i, the five numbers that the search reads of a request placed at a start.
 fn note(rows: &mut [u32; 640], i: usize, a: Ask, start: u16)
     requires { ⌜ (i < 128) × (length (now rows) ≡ 640) ⌝ }
@@ -80,50 +66,40 @@ fn note(rows: &mut [u32; 640], i: usize, a: Ask, start: u16)
     rows[k + 4] = a.request.address;
 }
 
-// The rows of the n entries.
-fn rows_of(n: usize, entries: [Entry; 128]) -> [u32; 640]
-    requires { ⌜ n ≤ 128 ⌝ }
-    ensures { λ r. ⌜ Shown r n entries ⌝ }
-{
-    let mut rows = [0u32; 640];
-    let mut i: usize = 0;
-    while i < n {
-        let e = entries[i];
-        note(&mut rows, i, e.ask, e.start);
-        i += 1;
-    }
-    rows
-}
-
-// One pass over what waits, oldest first, with a limit for each unit. What still waits is written over the slots of base.
-fn sweep(l: u32, limits: [u8; 8], base: [Ask; 128], b: Planned) -> Planned
-    requires { ⌜ (l ≤ 65535) × (b .placed + b .waiting ≤ 128) ⌝ }
-    ensures { λ r. ⌜ r ≡ planned (passOver l limits (boardOf b)) (b .entries) base ⌝ }
+// One pass over what waits, oldest first, with a limit for each unit. What still waits moves up in its own slots; the rows show the
+// entries, and the counts say how many each unit has.
+fn pass_over(
+    l: u32,
+    limits: [u8; 8],
+    rows: &mut [u32; 640],
+    counts: &mut [u8; 8],
+    b: Planned,
+) -> Planned
+    requires { ⌜ (l ≤ 65535) × (b .placed + b .waiting ≤ 128) × Shown (now rows) (b .placed) (b .entries) × Tallied (now counts) (placedIn b) ⌝ }
+    ensures { λ r. ⌜ PassedOver l limits b r (now (rows .exit)) (now (counts .exit)) ⌝ }
 {
     let mut placed = b.placed;
     let mut entries = b.entries;
-    let mut counts = tally(placed, entries);
-    let mut rows = rows_of(placed, entries);
     let mut waiting: usize = 0;
-    let mut left = base;
+    let mut asks = b.asks;
     let mut i: usize = 0;
     while i < b.waiting {
-        let a = b.asks[i];
+        let a = asks[i];
         i += 1;
-        if share(limits, a.request.unit) <= share(counts, a.request.unit) {
-            left[waiting] = a;
+        if share(limits, a.request.unit) <= share(*counts, a.request.unit) {
+            asks[waiting] = a;
             waiting += 1;
             continue;
         }
-        match first_fit(l, a, placed, &rows) {
+        match first_fit(l, a, placed, rows) {
             Place::At(t) => {
                 entries[placed] = entry_at(a, t);
-                note(&mut rows, placed, a, t);
-                one_more(&mut counts, a.request.unit);
+                note(rows, placed, a, t);
+                one_more(counts, a.request.unit);
                 placed += 1;
             }
             Place::Nowhere => {
-                left[waiting] = a;
+                asks[waiting] = a;
                 waiting += 1;
             }
         }
@@ -132,30 +108,72 @@ fn sweep(l: u32, limits: [u8; 8], base: [Ask; 128], b: Planned) -> Planned
         placed: placed,
         entries: entries,
         waiting: waiting,
-        asks: left,
+        asks: asks,
     }
 }
 
-// The plan: units 0 to 7 in turn up to their guarantees, then all the rest up to the ceilings. It is written over the slots of the
-// old plan, and what still waits over those of the waiting list.
-pub fn make_plan(s: Setup, w: Asks, old: [Entry; 128]) -> Planned
-    ensures { λ r. ⌜ r ≡ planned (plan s (asksOf w)) old (w .list) ⌝ }
+// The first n asks over the slots of base.
+fn over_slots(base: [Ask; 128], n: usize, asks: [Ask; 128]) -> [Ask; 128]
+    requires { ⌜ n ≤ 128 ⌝ }
+    ensures { λ r. ⌜ r ≡ over (take n asks) base ⌝ }
+{
+    let mut out = base;
+    let mut i: usize = 0;
+    while i < n {
+        let a = asks[i];
+        out[i] = a;
+        i += 1;
+    }
+    out
+}
+
+// The passes: units 0 to 7 in turn up to their guarantees, then all the rest up to the ceilings.
+fn make_passes(s: Setup, n: usize, asks: [Ask; 128], old: [Entry; 128]) -> Planned
+    requires { ⌜ n ≤ 128 ⌝ }
+    ensures { λ r. ⌜ Laid (plan s (take n asks)) old r ⌝ }
 {
     let l = wide(s.period);
     let guarantee = s.guarantee;
     let ceiling = s.ceiling;
-    let base = w.list;
-    let n = live(w.n);
+    let mut rows = [0u32; 640];
+    let mut counts = [0u8; 8];
     let mut r = Planned {
         placed: 0,
         entries: old,
         waiting: n,
-        asks: base,
+        asks: asks,
     };
     let mut u: usize = 0;
     while u < 8 {
-        r = sweep(l, alone_in(u, guarantee), base, r);
+        r = pass_over(l, alone_in(u, guarantee), &mut rows, &mut counts, r);
         u += 1;
     }
-    sweep(l, ceiling, base, r)
+    pass_over(l, ceiling, &mut rows, &mut counts, r)
+}
+
+// The plan. It is written over the slots of the old one, and what still waits over those of the waiting list. With nothing waiting
+// there is nothing to place.
+pub fn make_plan(s: Setup, w: Asks, old: [Entry; 128]) -> Planned
+    ensures { λ r. ⌜ r ≡ planned (plan s (asksOf w)) old (w .list) ⌝ }
+{
+    let n = live(w.n);
+    let base = w.list;
+    if n == 0 {
+        return Planned {
+            placed: 0,
+            entries: old,
+            waiting: 0,
+            asks: base,
+        };
+    }
+    let r = make_passes(s, n, base, old);
+    let entries = r.entries;
+    let left = r.asks;
+    let asks = over_slots(base, r.waiting, left);
+    Planned {
+        placed: r.placed,
+        entries: entries,
+        waiting: r.waiting,
+        asks: asks,
+    }
 }

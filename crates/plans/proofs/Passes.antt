@@ -17,7 +17,8 @@ use Rattle.plans.specs.declared.plan.Place.the-variants.{At, Nowhere}
 use Rattle.plans.specs.Exchange.{entryAt}
 use Rattle.plans.specs.Fits.{place}
 use Rattle.plans.specs.Shares.{share}
-use Rattle.plans.specs.Plan.{taken, Board, tried, stays, pass, alone, turns}
+use Rattle.plans.specs.declared.setup.Setup.{Setup}
+use Rattle.plans.specs.Plan.{taken, Board, tried, stays, pass, alone, turns, nothingPlaced, plan}
 
 -- the list is done; a request is put behind those placed; or it stays
 pub data Passed (L : ℕ) (limits : List ℕ) : List Entry → List Ask → List Entry → List Ask → Type 0 where
@@ -68,3 +69,8 @@ pub turns-sizes : (L : ℕ) (shares : List ℕ) (n : ℕ) (b : Board) → length
 unfolding turns
 turns-sizes L shares zero b = refl
 turns-sizes L shares (suc n) b = sizes (passed L (alone n shares) (turns L shares n b .placed) (turns L shares n b .waiting)) ∙ turns-sizes L shares n b
+
+-- a plan of nothing places nothing
+pub plan-of-nothing : (s : Setup) → plan s [] ≡ nothingPlaced []
+unfolding pass turns plan
+plan-of-nothing s = refl
