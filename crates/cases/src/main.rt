@@ -8,12 +8,18 @@ fn show_stream(fd: i32) {
     let got = io::read_full(fd, &mut input);
     let s = &input[..got];
     let mut lines = [0u8; ROOM];
+    let mut held: usize = 0;
     let mut run = stream::begin();
     while run.more {
-        run = stream::advance(s, run, &mut lines);
-        let size = run.size;
-        io::write_all(STDOUT_FILENO, &lines[..size]);
+        if stream::is_full(held) {
+            io::write_all(STDOUT_FILENO, &lines[..held]);
+            held = 0;
+        }
+        let ahead = stream::advance(s, run, &mut lines, held);
+        run = ahead.run;
+        held = ahead.end;
     }
+    io::write_all(STDOUT_FILENO, &lines[..held]);
 }
 
 // A file by its name: "== NAME" and its lines, or "NAME ?" where it cannot be opened.

@@ -17,7 +17,7 @@ pub fn body_length(kind: u8) -> usize
 }
 
 // The length of the message in a reply.
-pub(crate) fn message_length(kind: u8) -> usize
+pub fn message_length(kind: u8) -> usize
     ensures { λ r. ⌜ (r ≡ messageLength kind) × (r ≤ 14) ⌝ }
 {
     if kind == 7 {

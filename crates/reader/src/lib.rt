@@ -12,6 +12,7 @@ pub use fields::request_at;
 pub use fields::setup_at;
 pub use fields::tag_at;
 pub use kinds::body_length;
+pub use kinds::message_length;
 pub use reader::found_at;
 pub use reader::next;
 pub use reader::reader_at;

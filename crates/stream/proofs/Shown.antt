@@ -1,31 +1,37 @@
--- What a step of the code gives the program: fewer bytes left, and the record's lines at the front of the buffer.
-use Prim.Native.Nat.{ℕ, _≤_, _<_}
+-- What a step of the code gives the program: fewer bytes left, and the record's lines behind those that are held.
+use Prim.Native.Nat.{ℕ, _+_, _≤_, _<_}
 use native.Mathlib.Omega.{arith}
 use mathlib.Core.Path.{_≡_, ap, _∙_}
-use mathlib.Core.Bool.{true}
-use mathlib.Core.List.{List}
-use lib.ListN.{length, take, length-take}
-use Rattle.letters.proofs.Laid.{length-laid, take-laid}
+use mathlib.Core.Bool.{true, false}
+use mathlib.Core.List.{List, _++_}
+use lib.ListN.{length, take, drop, length-take, length-append}
+use lib.Seq.{take-at}
+use borrow.Author.Tests.{leb-false}
+use Rattle.letters.proofs.Laid.{length-laid, laid-split}
 use Rattle.transcripts.specs.declared.run.Run.{Run}
-use Rattle.transcripts.specs.Run.{outcomeNow, advanced}
+use Rattle.transcripts.specs.declared.run.Progress.{Progress}
+use Rattle.transcripts.specs.Run.{linesNow, isFull, room}
 use Rattle.transcripts.proofs.Runs.{left, falls}
 use Rattle.stream.specs.Calls.{Advanced}
 
 -- the bytes left fall with each step, so the program ends
-pub falls-after : {s l m : List ℕ} {r q : Run} → Advanced s r l m q → r .more ≡ true → left s q < left s r
-falls-after {s} {l} {m} {r} a e = rw (a .answer) (falls s r e)
+pub falls-after : {s l m : List ℕ} {r : Run} {at : ℕ} {q : Progress} → Advanced s r at l m q → r .more ≡ true → left s (q .run) < left s r
+falls-after {s} {r = r} a e = rw (a .run) (falls s r e)
 
--- what the program writes after a step: the first bytes of the buffer are the record's lines
-pub shown : {s l m : List ℕ} {r q : Run} → Advanced s r l m q → take (q .size) m ≡ outcomeNow s r .lines
-unfolding advanced
-shown {s} {l} {m} {r} {q} a =
-    let t = outcomeNow s r .lines in
-    let z : q .size ≡ length t = ap (λ (x : Run). x .size) (a .answer) in
-    let e : take (length t) m ≡ t = ap (take (length t)) (a .text) ∙ take-laid t l (omega (arith, a .room, z)) in
-    rw z e
+-- what is held then is what was held, and the record's lines whole, if there was room for one record more
+pub shown : {s l m : List ℕ} {r : Run} {at : ℕ} {q : Progress} → length l ≡ room → isFull at ≡ false → Advanced s r at l m q → take (q .end) m ≡ take at l ++ linesNow s r
+unfolding isFull
+shown {s} {l} {m} {r} {at} {q} z f a =
+    let t = linesNow s r in
+    let free : at < 988 = leb-false 988 at f in
+    let end : q .end ≡ at + length t = omega (arith, a .lines .put .next, a .lines .short) in
+    let fits : at + length t ≤ length l = omega (arith, a .lines .put .next, a .lines .short) in
+    let front : length (take at l ++ t) ≡ q .end = simp (length-append, length-take) (omega arith) in
+    ap (take (q .end)) (a .lines .put .text ∙ laid-split t at l fits)
+    ∙ take-at (take at l ++ t) (drop (at + length t) l) (q .end) front
 
--- and they are all in the buffer, as lending its front asks
-pub shown-count : {s l m : List ℕ} {r q : Run} → Advanced s r l m q → (q .size ≤ length m) × (q .size ≡ length (take (q .size) m))
-shown-count {s} {l} {m} {r} {q} a =
-    let k : length m ≡ length l = ap length (a .text) ∙ length-laid (outcomeNow s r .lines) 0 l in
-    (omega (arith, a .room, k), simp length-take (omega (arith, a .room, k)))
+-- and it is all in the buffer, as lending its front asks
+pub shown-count : {s l m : List ℕ} {r : Run} {at : ℕ} {q : Progress} → Advanced s r at l m q → (q .end ≤ length m) × (q .end ≡ length (take (q .end) m))
+shown-count {s} {l} {m} {r} {at} {q} a =
+    let k : length m ≡ length l = ap length (a .lines .put .text) ∙ length-laid (linesNow s r) at l in
+    (omega (arith, a .lines .put .next, k), simp length-take (omega (arith, a .lines .put .next, k)))

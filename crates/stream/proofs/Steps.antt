@@ -1,16 +1,18 @@
 -- Laws of what a record does and prints, and of one step.
-use Prim.Native.Nat.{ℕ, _≤_}
+use Prim.Native.Nat.{ℕ, _+_, _%_, _^_, _≤_, _<_}
 use native.Mathlib.Omega.{arith}
-use mathlib.Core.Path.{_≡_, sym, ap}
-use mathlib.Core.Bool.{true, false}
+use mathlib.Core.Path.{_≡_, refl, sym, ap}
+use mathlib.Core.Bool.{Bool, true, false}
 use mathlib.Core.List.{List, [], _++_, append-nil}
-use lib.ListN.{length}
-use borrow.Author.Tests.{eq-eqb, ne-eqb}
-use Rattle.letters.proofs.Laid.{put-none}
+use lib.ListN.{length, take, replicate}
+use borrow.Author.Tests.{eq-eqb, ne-eqb, eqb-true, eqb-false}
+use mathlib.Core.Logic.{_⊎_, ⊎-elim}
+use lib.Dec.{eqb}
+use Rattle.lists.specs.Lists.{pick}
 use Rattle.records.specs.declared.fields.Reply.{Reply}
 use Rattle.records.specs.declared.reading.Found.{Found}
 use Rattle.records.specs.declared.reading.Found.the-variants.{End, Unknown, Cut, Whole}
-use Rattle.records.specs.Records.{recordAt}
+use Rattle.records.specs.Records.{messageLength, recordAt}
 use Rattle.records.specs.Fields.{replyAt}
 use Rattle.records.proofs.Parts.{parts-in-order}
 use Rattle.histories.specs.declared.state.Station.{Station}
@@ -19,18 +21,22 @@ use Rattle.histories.specs.Calls.{refused}
 use Rattle.histories.specs.Replies.{Replied}
 use Rattle.stream.specs.declared.obey.Done.{Done}
 use Rattle.transcripts.specs.Lines.{answerLine, replyLine, reportLine}
-use Rattle.stream.specs.Calls.{Within, Did, Stepped}
-use Rattle.transcripts.specs.Step.{Outcome, answered, repliedTo, reportedTo, obeyed}
-use Rattle.transcripts.specs.Run.{outcome, goesOn, nextPlace}
-use Rattle.stream.proofs.Lengths.{within, within-more, within-of}
+use Rattle.stream.specs.Calls.{Within, Did, Stepped, Advanced}
+use Rattle.stream.specs.declared.step.Step.{Step}
+use Rattle.transcripts.specs.declared.run.Run.{Run}
+use Rattle.transcripts.proofs.Runs.{stays-ended, lays-nothing}
+use Rattle.transcripts.specs.Step.{Outcome, answered, repliedTo, replyTo, zeros, reportedTo, obeyed}
+use Rattle.transcripts.specs.Run.{outcome, goesOn, nextPlace, outcomeNow, linesNow, stepped, advanced, longest}
+use Rattle.stream.proofs.Lengths.{within-more, within-of}
 
 -- an outcome by another name
-pub did-of : {o p : Outcome} {l m : List ℕ} {r : Done} → o ≡ p → Did o l m r → Did p l m r
+pub did-of : {o p : Outcome} {at : ℕ} {l m : List ℕ} {r : Done} → o ≡ p → Did o at l m r → Did p at l m r
 did-of e d = rw e at d
 
 -- the lines of an outcome, by their own name
-pub did-lines : {o : Outcome} {l m t : List ℕ} {r : Done} (k : ℕ) → k ≤ 9252 → r .station ≡ o .station → t ≡ o .lines → Within k t 0 l m (r .size) → Did o l m r
-did-lines k h e f w = record { station = e; lines = within-more k 9252 h (within-of f w) }
+pub did-lines : {o : Outcome} {at : ℕ} {l m t : List ℕ} {r : Done} (k : ℕ) → k ≤ longest → r .station ≡ o .station → t ≡ o .lines → Within k t at l m (r .end)
+    → Did o at l m r
+did-lines k h e f w = record { station = e; lines = within-more k longest h (within-of f w) }
 
 -- ---- a report, refused and taken
 
@@ -56,38 +62,82 @@ in-order s kind b e = let o = parts-in-order s kind b in rw e (o .first, o .seco
 
 -- ---- a record by its kind
 
+-- a kind that has no arm of its own
+pub record Rest (kind : ℕ) : Type 0 where
+  pub not-1 : kind ≡ 1 → ⊥
+  pub not-2 : kind ≡ 2 → ⊥
+  pub not-3 : kind ≡ 3 → ⊥
+  pub not-4 : kind ≡ 4 → ⊥
+  pub not-5 : kind ≡ 5 → ⊥
+  pub not-8 : kind ≡ 8 → ⊥
+  pub not-9 : kind ≡ 9 → ⊥
+
 module _ (s : List ℕ) (n b : ℕ) (st : Station) {kind : ℕ} where
   pub of-kind : {k : ℕ} → kind ≡ k → obeyed s n k b st ≡ obeyed s n kind b st
   of-kind e = ap (λ (x : ℕ). obeyed s n x b st) (sym e)
 
-  pub of-none : (kind ≡ 1 → ⊥) → (kind ≡ 2 → ⊥) → (kind ≡ 3 → ⊥) → (kind ≡ 4 → ⊥) → (kind ≡ 5 → ⊥) → (kind ≡ 6 → ⊥) → (kind ≡ 7 → ⊥) → (kind ≡ 8 → ⊥) → (kind ≡ 9 → ⊥)
-      → answered n kind (refused 16 st) ≡ obeyed s n kind b st
+  -- a reply of either length
+  pub of-reply : Rest kind → 1 ≤ kind → kind < 8 → repliedTo n kind (replyTo s kind b st (zeros kind)) ≡ obeyed s n kind b st
   unfolding obeyed
-  of-none e1 e2 e3 e4 e5 e6 e7 e8 e9 =
-      rw (ne-eqb kind 1 e1, ne-eqb kind 2 e2, ne-eqb kind 3 e3, ne-eqb kind 4 e4, ne-eqb kind 5 e5, ne-eqb kind 6 e6, ne-eqb kind 7 e7, ne-eqb kind 8 e8, ne-eqb kind 9 e9)
+  of-reply h low high = go (eqb kind 6) refl
+    where
+      go : (t : Bool) → eqb kind 6 ≡ t → repliedTo n kind (replyTo s kind b st (zeros kind)) ≡ obeyed s n kind b st
+      go true e = let z : kind ≡ 6 = eqb-true kind 6 e in rw z
+      go false e =
+          let z : kind ≡ 7 = omega (arith, h .not-1, h .not-2, h .not-3, h .not-4, h .not-5, eqb-false kind 6 e) in
+          rw z
+
+  -- no kind at all
+  pub of-none : Rest kind → (kind < 1) ⊎ (8 ≤ kind) → answered n kind (refused 16 st) ≡ obeyed s n kind b st
+  unfolding obeyed
+  of-none h out =
+      let not-6 : kind ≡ 6 → ⊥ = λ e. ⊎-elim (λ l. omega arith) (λ l. omega arith) out in
+      let not-7 : kind ≡ 7 → ⊥ = λ e. ⊎-elim (λ l. omega arith) (λ l. omega arith) out in
+      rw (ne-eqb kind 1 (h .not-1), ne-eqb kind 2 (h .not-2), ne-eqb kind 3 (h .not-3), ne-eqb kind 4 (h .not-4), ne-eqb kind 5 (h .not-5), ne-eqb kind 6 not-6, ne-eqb kind 7 not-7, ne-eqb kind 8 (h .not-8), ne-eqb kind 9 (h .not-9))
+
+-- the buffer lent for a corrected message: the front of fourteen zeros
+pub front-zeros : (kind n : ℕ) → n ≡ messageLength kind → take {A = ℕ} n (replicate 14 0) ≡ zeros kind
+unfolding messageLength
+front-zeros kind n e = rw e (go (eqb kind 7))
+  where
+    go : (b : Bool) → take {A = ℕ} (pick b 14 7) (replicate 14 0) ≡ replicate (pick b 14 7) 0
+    go true = refl
+    go false = refl
 
 -- ---- a step by what stands at the place
 
-module _ (s : List ℕ) (at n : ℕ) (st : Station) {l : List ℕ} where
-  step-as : (f : Found) {m : List ℕ} {k : ℕ} → recordAt s at ≡ f → Within 9252 (outcome s n st f .lines) 0 l m k
-      → Stepped s at n st l m (record { station = outcome s n st f .station; more = goesOn f; next = nextPlace f at; size = k })
+module _ (s : List ℕ) (place n : ℕ) (st : Station) {at : ℕ} {l : List ℕ} where
+  step-as : (f : Found) {m : List ℕ} {k : ℕ} → recordAt s place ≡ f → Within longest (outcome s n st f .lines) at l m k
+      → Stepped s place n st at l m (record { station = outcome s n st f .station; more = goesOn f; next = nextPlace f place; end = k })
   step-as f h w = record { station = rw h; more = rw h; next = rw h; lines = rw h w }
 
-  pub step-end : recordAt s at ≡ End → Stepped s at n st l l (record { station = st; more = false; next = at; size = 0 })
+  pub step-end : {k : ℕ} {m : List ℕ} → recordAt s place ≡ End → Within 0 [] at l m k
+      → Stepped s place n st at l m (record { station = st; more = false; next = place; end = k })
   unfolding outcome goesOn nextPlace
-  step-end h = step-as End h (within 9252 (omega arith) (put-none 0 l (omega arith)))
+  step-end h w = step-as End h (within-more 0 longest (omega arith) w)
 
-  pub step-unknown : {kind k : ℕ} {m : List ℕ} → recordAt s at ≡ Unknown kind → Within 36 (answerLine n kind 16) 0 l m k
-      → Stepped s at n st l m (record { station = st; more = false; next = at; size = k })
+  pub step-unknown : {kind k : ℕ} {m : List ℕ} → recordAt s place ≡ Unknown kind → Within 36 (answerLine n kind 16) at l m k
+      → Stepped s place n st at l m (record { station = st; more = false; next = place; end = k })
   unfolding outcome goesOn nextPlace
-  step-unknown {kind} h w = step-as (Unknown kind) h (within-more 36 9252 (omega arith) w)
+  step-unknown {kind} h w = step-as (Unknown kind) h (within-more 36 longest (omega arith) w)
 
-  pub step-cut : {kind k : ℕ} {m : List ℕ} → recordAt s at ≡ Cut kind → Within 36 (answerLine n kind 17) 0 l m k
-      → Stepped s at n st l m (record { station = st; more = false; next = at; size = k })
+  pub step-cut : {kind k : ℕ} {m : List ℕ} → recordAt s place ≡ Cut kind → Within 36 (answerLine n kind 17) at l m k
+      → Stepped s place n st at l m (record { station = st; more = false; next = place; end = k })
   unfolding outcome goesOn nextPlace
-  step-cut {kind} h w = step-as (Cut kind) h (within-more 36 9252 (omega arith) w)
+  step-cut {kind} h w = step-as (Cut kind) h (within-more 36 longest (omega arith) w)
 
-  pub step-whole : {kind b next : ℕ} {m : List ℕ} {d : Done} → recordAt s at ≡ Whole kind b next → Did (obeyed s n kind b st) l m d
-      → Stepped s at n st l m (record { station = d .station; more = true; next = next; size = d .size })
+  pub step-whole : {kind b next : ℕ} {m : List ℕ} {d : Done} → recordAt s place ≡ Whole kind b next → Did (obeyed s n kind b st) at l m d
+      → Stepped s place n st at l m (record { station = d .station; more = true; next = next; end = d .end })
   unfolding outcome goesOn nextPlace
   step-whole {kind} {b} {next} h d = rw (d .station) (step-as (Whole kind b next) h (d .lines))
+
+-- ---- a run by whether it goes on
+
+module _ (s : List ℕ) (r : Run) {at : ℕ} {l m : List ℕ} where
+  pub stay-ended : {k : ℕ} → r .more ≡ false → Within 0 [] at l m k → Advanced s r at l m (record { run = r; end = k })
+  stay-ended e w = record { run = sym (stays-ended s r e); lines = within-of (sym (lays-nothing s r e)) (within-more 0 longest (omega arith) w) }
+
+  pub go-on : {k : ℕ} {x : Step} → r .more ≡ true → k ≡ (r .n + 1) % 2 ^ 32 → Stepped s (r .at) (r .n) (r .station) at l m x
+      → Advanced s r at l m (record { run = record { station = x .station; at = x .next; n = k; more = x .more }; end = x .end })
+  unfolding linesNow advanced stepped outcomeNow
+  go-on e c p = record { run = rw (e, c, p .station, p .next, p .more); lines = rw e (p .lines) }

@@ -2,13 +2,13 @@
 use Prim.Native.Nat.{ℕ, _+_, _≤_}
 use mathlib.Core.List.{List}
 use mathlib.Core.Path.{_≡_}
-use lib.ListN.{length}
-use Rattle.letters.specs.Put.{laid, Put}
+use Rattle.letters.specs.Put.{Put}
 use Rattle.records.specs.Records.{recordAt}
 use Rattle.histories.specs.declared.state.Station.{Station}
 use Rattle.transcripts.specs.declared.run.Run.{Run}
+use Rattle.transcripts.specs.declared.run.Progress.{Progress}
 use Rattle.transcripts.specs.Step.{Outcome}
-use Rattle.transcripts.specs.Run.{outcome, goesOn, nextPlace, outcomeNow, advanced}
+use Rattle.transcripts.specs.Run.{outcome, goesOn, nextPlace, linesNow, advanced, longest}
 use Rattle.stream.specs.declared.obey.Done.{Done}
 use Rattle.stream.specs.declared.step.Step.{Step}
 
@@ -17,20 +17,19 @@ pub record Within (k : ℕ) (t : List ℕ) (at : ℕ) (before after : List ℕ) 
   pub put : Put t at before after r
   pub short : r ≤ at + k
 
--- a call did what the definition says: the station afterwards, and the lines at the front of the buffer, of which there are at most 9,252 bytes
-pub record Did (o : Outcome) (before after : List ℕ) (r : Done) : Type 0 where
+-- a call did what the definition says: the station afterwards, and the lines at a place of the buffer, of which there are at most 9,252 bytes
+pub record Did (o : Outcome) (at : ℕ) (before after : List ℕ) (r : Done) : Type 0 where
   pub station : r .station ≡ o .station
-  pub lines : Within 9252 (o .lines) 0 before after (r .size)
+  pub lines : Within longest (o .lines) at before after (r .end)
 
 -- a step did what the definition says of what stands at the place
-pub record Stepped (s : List ℕ) (at n : ℕ) (st : Station) (before after : List ℕ) (r : Step) : Type 0 where
-  pub station : r .station ≡ outcome s n st (recordAt s at) .station
-  pub more : r .more ≡ goesOn (recordAt s at)
-  pub next : r .next ≡ nextPlace (recordAt s at) at
-  pub lines : Within 9252 (outcome s n st (recordAt s at) .lines) 0 before after (r .size)
+pub record Stepped (s : List ℕ) (place n : ℕ) (st : Station) (at : ℕ) (before after : List ℕ) (r : Step) : Type 0 where
+  pub station : r .station ≡ outcome s n st (recordAt s place) .station
+  pub more : r .more ≡ goesOn (recordAt s place)
+  pub next : r .next ≡ nextPlace (recordAt s place) place
+  pub lines : Within longest (outcome s n st (recordAt s place) .lines) at before after (r .end)
 
--- a step answered as defined, and the very bytes of the record's lines stand at the front of the buffer, which has room for them
-pub record Advanced (s : List ℕ) (r : Run) (before after : List ℕ) (q : Run) : Type 0 where
-  pub answer : q ≡ advanced s r
-  pub text : after ≡ laid (outcomeNow s r .lines) 0 before
-  pub room : q .size ≤ length before
+-- a run went one step on as defined, and the very bytes of the record's lines stand at a place of the buffer, as far as it has room for them
+pub record Advanced (s : List ℕ) (r : Run) (at : ℕ) (before after : List ℕ) (q : Progress) : Type 0 where
+  pub run : q .run ≡ advanced s r
+  pub lines : Within longest (linesNow s r) at before after (q .end)

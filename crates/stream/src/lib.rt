@@ -16,3 +16,4 @@ pub use report::put_report;
 pub use run::ROOM;
 pub use run::advance;
 pub use run::begin;
+pub use run::is_full;

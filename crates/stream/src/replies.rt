@@ -1,4 +1,4 @@
-// What a reply of each length does: the corrected message goes to a buffer of its own and is not printed.
+// What a reply does: the corrected message goes to a buffer of its own and is not printed.
 ghost use mathlib.Core.List.{[]};
 ghost use Rattle.histories.specs.Replies.{told};
 ghost use Rattle.transcripts.specs.Step.{repliedTo, replyTo, zeros};
@@ -10,62 +10,50 @@ use histories::Reply;
 use histories::Station;
 
 // A taken reply adds flips and delay on its line.
-fn put_replied(n: u32, kind: u8, r: Reply, out: &mut [u8]) -> Done
-    ensures { λ d. ⌜ Did (repliedTo n kind (told r [])) (now (out .entry)) (now (out .exit)) d ⌝ }
+fn put_replied(n: u32, kind: u8, r: Reply, out: &mut [u8], at: usize) -> Done
+    ensures { λ d. ⌜ Did (repliedTo n kind (told r [])) at (now (out .entry)) (now (out .exit)) d ⌝ }
 {
     let station = r.station;
     if r.number != 0 {
-        let refused = put_answer(out, 0, n, kind, r.number);
+        let refused = put_answer(out, at, n, kind, r.number);
         return Done {
             station: station,
-            size: refused,
+            end: refused,
         };
     }
-    let taken = put_reply_answer(out, 0, n, kind, r.flips, r.delay);
+    let taken = put_reply_answer(out, at, n, kind, r.flips, r.delay);
     Done {
         station: station,
-        size: taken,
+        end: taken,
     }
 }
 
-// A reply, with the buffer that it is lent for the corrected message.
-fn obey_reply(
+// A reply of either length: the buffer that it is lent for the corrected message is as long as the message.
+pub(crate) fn obey_reply(
     s: &[u8],
     kind: u8,
     b: usize,
     n: u32,
     st: Station,
-    corrected: &mut [u8],
     out: &mut [u8],
+    at: usize,
 ) -> Done
-    ensures { λ r. ⌜ Did (repliedTo n kind (replyTo (now (s .entry)) kind b st (now (corrected .entry)))) (now (out .entry)) (now (out .exit)) r ⌝ }
+    ensures { λ r. ⌜ Did (repliedTo n kind (replyTo (now (s .entry)) kind b st (zeros kind))) at (now (out .entry)) (now (out .exit)) r ⌝ }
 {
     let q = reader::reply_at(s, kind, b);
     let message = q.message;
     let marks = q.marks;
     let end = q.end;
     let entry = q.entry as usize;
+    let size = reader::message_length(kind);
+    let mut corrected = [0u8; 14];
     let r = station::take_reply(
         st,
         entry,
         q.tag,
         &s[message..marks],
         &s[marks..end],
-        corrected,
+        &mut corrected[..size],
     );
-    put_replied(n, kind, r, out)
-}
-
-pub(crate) fn obey_short_reply(s: &[u8], b: usize, n: u32, st: Station, out: &mut [u8]) -> Done
-    ensures { λ r. ⌜ Did (repliedTo n 6 (replyTo (now (s .entry)) 6 b st (zeros 6))) (now (out .entry)) (now (out .exit)) r ⌝ }
-{
-    let mut corrected = [0u8; 7];
-    obey_reply(s, 6, b, n, st, &mut corrected, out)
-}
-
-pub(crate) fn obey_long_reply(s: &[u8], b: usize, n: u32, st: Station, out: &mut [u8]) -> Done
-    ensures { λ r. ⌜ Did (repliedTo n 7 (replyTo (now (s .entry)) 7 b st (zeros 7))) (now (out .entry)) (now (out .exit)) r ⌝ }
-{
-    let mut corrected = [0u8; 14];
-    obey_reply(s, 7, b, n, st, &mut corrected, out)
+    put_replied(n, kind, r, out, at)
 }

@@ -2,48 +2,56 @@
 ghost use Rattle.stream.specs.Calls.{Stepped};
 use crate::answers::put_answer;
 use crate::obey::obey;
+use crate::words::put_nothing;
 use histories::Station;
 use records::Found;
 
-// The station afterwards, whether the run goes on and where, and how many bytes the lines have.
+// The station afterwards, whether the run goes on and where, and the place behind the lines.
 pub(crate) struct Step {
     pub station: Station,
     pub more: bool,
     pub next: usize,
-    pub size: usize,
+    pub end: usize,
 }
 
-// What stands at a place, as record n: its lines go to the front of out.
-pub(crate) fn put_step(s: &[u8], at: usize, n: u32, st: Station, out: &mut [u8]) -> Step
-    ensures { λ r. ⌜ Stepped (now (s .entry)) at n st (now (out .entry)) (now (out .exit)) r ⌝ }
+// What stands at a place of the stream, as record n: its lines go to the place at of out.
+pub(crate) fn put_step(
+    s: &[u8],
+    place: usize,
+    n: u32,
+    st: Station,
+    out: &mut [u8],
+    at: usize,
+) -> Step
+    ensures { λ r. ⌜ Stepped (now (s .entry)) place n st at (now (out .entry)) (now (out .exit)) r ⌝ }
 {
-    match reader::found_at(s, at) {
+    match reader::found_at(s, place) {
         Found::End => Step {
             station: st,
             more: false,
-            next: at,
-            size: 0,
+            next: place,
+            end: put_nothing(out, at),
         },
         Found::Unknown(kind) => Step {
             station: st,
             more: false,
-            next: at,
-            size: put_answer(out, 0, n, kind, 16),
+            next: place,
+            end: put_answer(out, at, n, kind, 16),
         },
         Found::Cut(kind) => Step {
             station: st,
             more: false,
-            next: at,
-            size: put_answer(out, 0, n, kind, 17),
+            next: place,
+            end: put_answer(out, at, n, kind, 17),
         },
         Found::Whole { kind, body, next } => {
-            let done = obey(s, kind, body, n, st, out);
+            let done = obey(s, kind, body, n, st, out, at);
             let after = done.station;
             Step {
                 station: after,
                 more: true,
                 next: next,
-                size: done.size,
+                end: done.end,
             }
         }
     }

@@ -1,4 +1,5 @@
 // A word of a line and the byte behind it: a space, or the newline that ends the line.
+ghost use mathlib.Core.List.{[]};
 ghost use Rattle.letters.specs.Put.{decimal};
 ghost use Rattle.transcripts.specs.Lines.{followed};
 ghost use Rattle.stream.specs.Calls.{Within};
@@ -13,4 +14,14 @@ pub(crate) fn put_number(out: &mut [u8], at: usize, n: u32, behind: u8) -> usize
 {
     let end = text::put_decimal(out, at, n);
     text::put_byte(out, end, behind)
+}
+
+// Nothing: the place itself, or the buffer's end where it is beyond that.
+pub(crate) fn put_nothing(out: &mut [u8], at: usize) -> usize
+    ensures { λ r. ⌜ Within 0 [] at (now (out .entry)) (now (out .exit)) r ⌝ }
+{
+    if out.len() <= at {
+        return out.len();
+    }
+    at
 }

@@ -2,9 +2,9 @@
 use Prim.Native.Nat.{ℕ, zero, suc, _+_, _-_, _%_, _^_, _≤_, _<_}
 use native.Mathlib.Nat.{mod-eq-of-lt}
 use native.Mathlib.Omega.{arith}
-use mathlib.Core.Path.{_≡_, refl, ap, _∙_}
+use mathlib.Core.Path.{_≡_, refl, sym, ap, _∙_}
 use mathlib.Core.Bool.{Bool, true, false}
-use mathlib.Core.List.{List, [], _++_}
+use mathlib.Core.List.{List, [], _++_, append-nil, append-assoc}
 use lib.ListN.{length, getD, take, length-take}
 use borrow.Author.Tests.{le-leb}
 use Rattle.lists.specs.Lists.{pick}
@@ -14,7 +14,7 @@ use Rattle.records.specs.Records.{bodyLength, recordAt}
 use Rattle.records.proofs.Steps.{whole-fits}
 use Rattle.histories.specs.declared.state.Station.{Station}
 use Rattle.transcripts.specs.declared.run.Run.{Run}
-use Rattle.transcripts.specs.Run.{outcome, goesOn, nextPlace, textFrom, transcript, begun, outcomeNow, advanced, written, runAfter}
+use Rattle.transcripts.specs.Run.{outcome, goesOn, nextPlace, textFrom, transcript, begun, outcomeNow, linesNow, stepped, advanced, written, runAfter, isFull, writtenLate}
 
 -- ---- a step takes each byte at most once
 
@@ -42,13 +42,33 @@ stays-by (Cut kind) at e = refl
 stays-by (Whole kind body next) at e = let z : _≡_ {A = ℕ} 0 1 = cc in absurd (omega arith)
 
 -- a step that goes on takes the record's own bytes, which no later step takes again; one that does not go on takes nothing
-pub takes-once : (s : List ℕ) (r : Run) → advanced s r .more ≡ true → Taken s (r .at) (advanced s r .at)
-unfolding advanced
-takes-once s r e = taken-by s (r .at) (recordAt s (r .at)) refl e
+pub takes-once : (s : List ℕ) (r : Run) → r .more ≡ true → advanced s r .more ≡ true → Taken s (r .at) (advanced s r .at)
+unfolding advanced stepped
+takes-once s r m = rw m (λ e. taken-by s (r .at) (recordAt s (r .at)) refl e)
 
-pub ends-there : (s : List ℕ) (r : Run) → advanced s r .more ≡ false → advanced s r .at ≡ r .at
+pub ends-there : (s : List ℕ) (r : Run) → r .more ≡ true → advanced s r .more ≡ false → advanced s r .at ≡ r .at
+unfolding advanced stepped
+ends-there s r m = rw m (λ e. stays-by (recordAt s (r .at)) (r .at) e)
+
+-- ---- a run that has ended stays ended: a step lays nothing and changes nothing
+
+pub stays-ended : (s : List ℕ) (r : Run) → r .more ≡ false → advanced s r ≡ r
 unfolding advanced
-ends-there s r e = stays-by (recordAt s (r .at)) (r .at) e
+stays-ended s r e = rw e
+
+pub lays-nothing : (s : List ℕ) (r : Run) → r .more ≡ false → linesNow s r ≡ []
+unfolding linesNow
+lays-nothing s r e = rw e
+
+pub all-ended : (k : ℕ) (s : List ℕ) (r : Run) → r .more ≡ false → runAfter k s r ≡ r
+unfolding runAfter
+all-ended zero s r e = refl
+all-ended (suc k) s r e = rw (stays-ended s r e) (all-ended k s r e)
+
+pub writes-nothing : (k : ℕ) (s : List ℕ) (r : Run) → r .more ≡ false → written k s r ≡ []
+unfolding written
+writes-nothing zero s r e = refl
+writes-nothing (suc k) s r e = rw (lays-nothing s r e, stays-ended s r e) (writes-nothing k s r e)
 
 -- ---- a run ends: the bytes left fall with each step, and the step that finds no whole record is the last
 
@@ -61,22 +81,21 @@ by-test s at f true h e = let t = taken-by s at f h e in omega (arith, t .forwar
 by-test s at f false h e = omega (arith, stays-by f at e)
 
 pub falls : (s : List ℕ) (r : Run) → r .more ≡ true → left s (advanced s r) < left s r
-unfolding advanced
+unfolding advanced stepped
 falls s r m = rw m (by-test s (r .at) (recordAt s (r .at)) (goesOn (recordAt s (r .at))) refl refl)
-
-none-left : (s : List ℕ) (r : Run) (b : Bool) → r .more ≡ b → left s r ≤ 0 → r .more ≡ false
-none-left s r true e h = let z : (length s - r .at) + 1 ≤ 0 = rw e at h in absurd (omega arith)
-none-left s r false e h = e
-
-one-more : (k : ℕ) (s : List ℕ) (r : Run) (b : Bool) → r .more ≡ b → left s r ≤ suc k → ((q : Run) → left s q ≤ k → runAfter k s q .more ≡ false) → runAfter (suc k) s r .more ≡ false
-unfolding runAfter advanced outcomeNow
-one-more k s r true e h later = rw e (later (advanced s r) (omega (arith, falls s r e, h)))
-one-more k s r false e h later = rw e
 
 pub steps-end : (k : ℕ) (s : List ℕ) (r : Run) → left s r ≤ k → runAfter k s r .more ≡ false
 unfolding runAfter
-steps-end zero s r h = none-left s r (r .more) refl h
-steps-end (suc k) s r h = one-more k s r (r .more) refl h (λ q y. steps-end k s q y)
+steps-end zero s r h = go (r .more) refl
+  where
+    go : (b : Bool) → r .more ≡ b → r .more ≡ false
+    go true e = let z : (length s - r .at) + 1 ≤ 0 = rw e at h in absurd (omega arith)
+    go false e = e
+steps-end (suc k) s r h = go (r .more) refl (steps-end k s (advanced s r))
+  where
+    go : (b : Bool) → r .more ≡ b → (left s (advanced s r) ≤ k → runAfter k s (advanced s r) .more ≡ false) → runAfter k s (advanced s r) .more ≡ false
+    go true e later = later (omega (arith, falls s r e, h))
+    go false e later = rw (stays-ended s r e, all-ended k s r e) e
 
 -- the run ends for every input
 pub the-run-ends : (input : List ℕ) → runAfter 65537 (take 65536 input) begun .more ≡ false
@@ -115,25 +134,44 @@ pub record Sound (s : List ℕ) (r : Run) : Type 0 where
   pub counted : r .n ≤ r .at + 1
   pub inside : r .at ≤ length s
 
-follow : (k : ℕ) (s : List ℕ) (r : Run) (b : Bool) → goesOn (recordAt s (r .at)) ≡ b → length s ≤ 65536 → Sound s r
-    → ((q : Run) → Sound s q → written k s q ≡ textFrom k s (q .at) (q .n) (q .station))
-    → pick b (written k s (advanced s r)) [] ≡ pick b (textFrom k s (nextPlace (recordAt s (r .at)) (r .at)) (r .n + 1) (outcomeNow s r .station)) []
-unfolding advanced
-follow k s r false e small ok later = refl
-follow k s r true e small ok later =
+-- what follows a step, by whether the run goes on
+follow : (k : ℕ) (s : List ℕ) (r q : Run) (b : Bool) → q ≡ stepped s r → goesOn (recordAt s (r .at)) ≡ b → length s ≤ 65536 → Sound s r
+    → ((q : Run) → Sound s q → q .more ≡ true → written k s q ≡ textFrom k s (q .at) (q .n) (q .station))
+    → written k s q ≡ pick b (textFrom k s (nextPlace (recordAt s (r .at)) (r .at)) (r .n + 1) (outcomeNow s r .station)) []
+unfolding stepped
+follow k s r q false d e small ok later = writes-nothing k s q (ap (λ (x : Run). x .more) d ∙ e)
+follow k s r q true d e small ok later =
     let plain : (r .n + 1) % 2 ^ 32 ≡ r .n + 1 = mod-eq-of-lt (omega (arith, ok .counted, ok .inside)) in
     let t = taken-by s (r .at) (recordAt s (r .at)) refl e in
-    later (advanced s r) (record { counted = rw plain (omega (arith, t .forward, ok .counted)); inside = t .inside }) ∙ rw plain
+    rw d
+    (later (stepped s r) (record { counted = rw plain (omega (arith, t .forward, ok .counted)); inside = t .inside }) e ∙ rw plain)
 
--- what k steps write is the text of k records
-pub steps-write : (k : ℕ) (s : List ℕ) (r : Run) → length s ≤ 65536 → Sound s r → written k s r ≡ textFrom k s (r .at) (r .n) (r .station)
-unfolding written textFrom outcomeNow advanced
-steps-write zero s r small ok = refl
-steps-write (suc k) s r small ok =
-    ap (λ (t : List ℕ). outcomeNow s r .lines ++ t)
-    (follow k s r (goesOn (recordAt s (r .at))) refl small ok (λ q y. steps-write k s q small y))
+-- what k steps write of a run that goes on is the text of k records
+pub steps-write : (k : ℕ) (s : List ℕ) (r : Run) → length s ≤ 65536 → Sound s r → r .more ≡ true → written k s r ≡ textFrom k s (r .at) (r .n) (r .station)
+unfolding written textFrom linesNow outcomeNow advanced stepped
+steps-write zero s r small ok m = refl
+steps-write (suc k) s r small ok m =
+    rw m
+    (ap (λ (t : List ℕ). outcomeNow s r .lines ++ t)
+    (follow k s r (stepped s r) (goesOn (recordAt s (r .at))) refl refl small ok (λ q y z. steps-write k s q small y z)))
 
 -- the steps, one after the other, write exactly the transcript
 pub the-transcript : (input : List ℕ) → written 65537 (take 65536 input) begun ≡ transcript input
 unfolding transcript begun
-the-transcript input = steps-write 65537 (take 65536 input) begun (simp length-take (omega arith)) (record { counted = omega arith; inside = omega arith })
+the-transcript input = steps-write 65537 (take 65536 input) begun (simp length-take (omega arith)) (record { counted = omega arith; inside = omega arith }) refl
+
+-- ---- lines held back come out whole and in order
+
+pub late-same : (k : ℕ) (s : List ℕ) (r : Run) (held : List ℕ) → writtenLate k s r held ≡ held ++ written k s r
+unfolding writtenLate written
+late-same zero s r held = sym (append-nil held)
+late-same (suc k) s r held = go (isFull (length held)) (late-same k s (advanced s r))
+  where
+    go : (b : Bool) → ((h : List ℕ) → writtenLate k s (advanced s r) h ≡ h ++ written k s (advanced s r))
+        → pick b (held ++ writtenLate k s (advanced s r) (linesNow s r)) (writtenLate k s (advanced s r) (held ++ linesNow s r)) ≡ held ++ (linesNow s r ++ written k s (advanced s r))
+    go true later = ap (λ (t : List ℕ). held ++ t) (later (linesNow s r))
+    go false later = later (held ++ linesNow s r) ∙ append-assoc held (linesNow s r) (written k s (advanced s r))
+
+-- so a program that holds them back writes the transcript too
+pub the-transcript-late : (input : List ℕ) → writtenLate 65537 (take 65536 input) begun [] ≡ transcript input
+the-transcript-late input = late-same 65537 (take 65536 input) begun [] ∙ the-transcript input

@@ -1,7 +1,8 @@
 -- One record after the other: the text of a whole stream, and the run as the code carries it.
-use Prim.Native.Nat.{ℕ, zero, suc, _+_, _%_, _^_}
+use Prim.Native.Nat.{ℕ, zero, suc, _+_, _-_, _%_, _^_}
 use mathlib.Core.Bool.{Bool, true, false}
 use mathlib.Core.List.{List, [], _++_}
+use lib.Dec.{leb}
 use lib.ListN.{length, take}
 use Rattle.lists.specs.Lists.{pick}
 use Rattle.records.specs.declared.reading.Found.{Found}
@@ -51,33 +52,58 @@ transcript input = textFrom 65537 (take 65536 input) 0 1 blank
 -- ---- the run as the code carries it
 -- before the first record
 unfoldable pub begun : Run
-begun = record { station = blank; at = 0; n = 1; more = true; size = 0 }
+begun = record { station = blank; at = 0; n = 1; more = true }
 
 -- what the next record does
 unfoldable pub outcomeNow : List ℕ → Run → Outcome
 outcomeNow s r = outcome s (r .n) (r .station) (recordAt s (r .at))
 
--- after the next record; size is how many bytes its lines have. Records are counted on 32 bits, which no stream of 65,536 bytes fills
-unfoldable pub advanced : List ℕ → Run → Run
-advanced s r =
+-- the lines of the next record; a run that has ended has none
+unfoldable pub linesNow : List ℕ → Run → List ℕ
+linesNow s r = pick (r .more) (outcomeNow s r .lines) []
+
+-- after the next record. Records are counted on 32 bits, which no stream of 65,536 bytes fills
+unfoldable pub stepped : List ℕ → Run → Run
+stepped s r =
     record {
       station = outcomeNow s r .station;
       at = nextPlace (recordAt s (r .at)) (r .at);
       n = (r .n + 1) % 2 ^ 32;
       more = goesOn (recordAt s (r .at));
-      size = length (outcomeNow s r .lines);
     }
 
--- what k steps write, one after the other
-unfoldable pub written : ℕ → List ℕ → Run → List ℕ
-written zero s r = []
-written (suc k) s r =
-    let q = advanced s r in
-    outcomeNow s r .lines ++ pick (q .more) (written k s q) []
+-- a run that has ended stays as it is
+unfoldable pub advanced : List ℕ → Run → Run
+advanced s r =
+    let q = stepped s r in
+    pick (r .more) q r
 
--- the run after at most k steps more
+-- the run after k steps more
 unfoldable pub runAfter : ℕ → List ℕ → Run → Run
 runAfter zero s r = r
-runAfter (suc k) s r =
-    let later = runAfter k s (advanced s r) in
-    pick (r .more) later r
+runAfter (suc k) s r = runAfter k s (advanced s r)
+
+-- the lines of k steps, one after the other
+unfoldable pub written : ℕ → List ℕ → Run → List ℕ
+written zero s r = []
+written (suc k) s r = linesNow s r ++ written k s (advanced s r)
+
+-- ---- lines held back in a buffer
+-- the buffer's bytes, and the most that the lines of one record have: 36 of the answer and 72 of each of 128 entries
+abbrev pub room : ℕ
+room = 10240
+
+abbrev pub longest : ℕ
+longest = 9252
+
+-- whether the lines of one record more might not fit behind those held
+unfoldable pub isFull : ℕ → Bool
+isFull held = leb (room - longest) held
+
+-- what a program writes in k steps that holds lines back: those held when one record more might not fit, and at the end the rest
+unfoldable pub writtenLate : ℕ → List ℕ → Run → List ℕ → List ℕ
+writtenLate zero s r held = held
+writtenLate (suc k) s r held =
+    pick (isFull (length held))
+    (held ++ writtenLate k s (advanced s r) (linesNow s r))
+    (writtenLate k s (advanced s r) (held ++ linesNow s r))

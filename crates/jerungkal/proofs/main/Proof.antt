@@ -1,4 +1,7 @@
 -- `main` reads, has each record taken and writes its lines; the bytes left fall with every step, so it ends.
+use Prim.Native.Nat.{_≤_}
+use native.Mathlib.Omega.{arith}
+use lib.ListN.{length, length-take}
 use Rattle.transcripts.proofs.Runs.{left}
 use Rattle.stream.proofs.Shown.{falls-after, shown-count}
 use borrow.Author.Needs.{needs}
@@ -6,10 +9,10 @@ use Rattle.jerungkal.proofs.main.Statement.{statement}
 use Rattle.jerungkal.proofs.main.Tie as tie
 
 abbrev Inv-loop : tie.InvT-loop
-Inv-loop got s lines₀ run₀ lines run = Unit {0}
+Inv-loop got s lines₀ held₀ run₀ lines held run = held ≤ length lines
 
 abbrev μ-loop : tie.MeasureT-loop
-μ-loop got s lines₀ run₀ lines run = left s run
+μ-loop got s lines₀ held₀ run₀ lines held run = left s run
 
 large-buffer-requires : tie.Need-large-buffer-requires Inv-loop μ-loop
 large-buffer-requires c κs = search needs
@@ -30,25 +33,37 @@ begin-requires : tie.Need-begin-requires Inv-loop μ-loop
 begin-requires c κs = search needs
 
 loop-holds : tie.Need-loop-holds Inv-loop μ-loop
-loop-holds c = tt
+loop-holds c = search needs
 
-advance-requires : tie.Need-advance-requires Inv-loop μ-loop
-advance-requires c κs = search needs
+is-full-requires : tie.Need-is-full-requires Inv-loop μ-loop
+is-full-requires c κs = search needs
 
 array-share-prefix-lines : tie.Need-array-share-prefix-lines Inv-loop μ-loop
-array-share-prefix-lines c = shown-count (c .advance .ensures) .0
+array-share-prefix-lines c = c .before .before .before .loop .inv
 
 slice-aggregate-write-all : tie.Need-slice-aggregate-write-all Inv-loop μ-loop
-slice-aggregate-write-all c = shown-count (c .before .advance .ensures) .1
+slice-aggregate-write-all c = simp length-take (omega (arith, c .before .before .before .before .loop .inv))
 
 write-all-requires : tie.Need-write-all-requires Inv-loop μ-loop
 write-all-requires c κs = search needs
 
+advance-requires : tie.Need-advance-requires Inv-loop μ-loop
+advance-requires c κs = search needs
+
 loop-less : tie.Need-loop-less Inv-loop μ-loop
-loop-less c = falls-after (c .before .before .advance .ensures) (c .before .before .before .before .loop-test .taken)
+loop-less c = falls-after (c .before .advance .ensures) (c .before .before .before .before .before .loop-test .taken)
 
 loop-again : tie.Need-loop-again Inv-loop μ-loop
-loop-again c = tt
+loop-again c = shown-count (c .before .advance .ensures) .0
+
+array-share-prefix-lines-2 : tie.Need-array-share-prefix-lines-2 Inv-loop μ-loop
+array-share-prefix-lines-2 c = c .before .loop .inv
+
+slice-aggregate-write-all-2 : tie.Need-slice-aggregate-write-all-2 Inv-loop μ-loop
+slice-aggregate-write-all-2 c = simp length-take (omega (arith, c .before .before .loop .inv))
+
+write-all-requires-2 : tie.Need-write-all-requires-2 Inv-loop μ-loop
+write-all-requires-2 c κs = search needs
 
 returns : tie.Need-returns Inv-loop μ-loop
 returns c = search needs
@@ -66,10 +81,14 @@ main-spec =
     slice-aggregate-s
     begin-requires
     loop-holds
-    advance-requires
+    is-full-requires
     array-share-prefix-lines
     slice-aggregate-write-all
     write-all-requires
+    advance-requires
     loop-less
     loop-again
+    array-share-prefix-lines-2
+    slice-aggregate-write-all-2
+    write-all-requires-2
     returns)

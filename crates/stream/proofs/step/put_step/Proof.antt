@@ -11,6 +11,9 @@ found-at-requires c κs = search needs
 enum-told : tie.Need-enum-told
 enum-told c = search needs
 
+put-nothing-requires : tie.Need-put-nothing-requires
+put-nothing-requires c κs = search needs
+
 enum-known-kind : tie.Need-enum-known-kind
 enum-known-kind c = search needs
 
@@ -29,26 +32,29 @@ enum-known-kind-3 c = search needs
 obey-requires : tie.Need-obey-requires
 obey-requires c κs = search needs
 
-returns : tie.Need-returns
-returns c = step-end _ _ _ _ (sym (c .before .before .found-at .ensures) ∙ c .enum-told .given .1)
-
 same-length : tie.Need-same-length
 same-length c = search needs
 
-returns-2 : tie.Need-returns-2
-returns-2 c = step-unknown _ _ _ _ (sym (c .before .before .before .before .before .before .before .found-at .ensures) ∙ c .before .before .before .before .before .kind .given .1) (c .before .before .put-answer .ensures)
+returns : tie.Need-returns
+returns c = let x = c .before .before in let f = x .before .before in step-end _ _ _ _ (sym (f .before .before .found-at .ensures) ∙ f .enum-told .given .1) (x .put-nothing .ensures)
 
 same-length-2 : tie.Need-same-length-2
 same-length-2 c = search needs
 
-returns-3 : tie.Need-returns-3
-returns-3 c = step-cut _ _ _ _ (sym (c .before .before .before .before .before .before .before .found-at .ensures) ∙ c .before .before .before .before .before .kind2 .given .1) (c .before .before .put-answer2 .ensures)
+returns-2 : tie.Need-returns-2
+returns-2 c = let x = c .before .before in let f = x .before .before .before in step-unknown _ _ _ _ (sym (f .before .before .found-at .ensures) ∙ f .kind .given .1) (x .put-answer .ensures)
 
 same-length-3 : tie.Need-same-length-3
 same-length-3 c = search needs
 
+returns-3 : tie.Need-returns-3
+returns-3 c = let x = c .before .before in let f = x .before .before .before in step-cut _ _ _ _ (sym (f .before .before .found-at .ensures) ∙ f .kind2 .given .1) (x .put-answer2 .ensures)
+
+same-length-4 : tie.Need-same-length-4
+same-length-4 c = search needs
+
 returns-4 : tie.Need-returns-4
-returns-4 c = step-whole _ _ _ _ (sym (c .before .before .before .before .before .before .before .before .found-at .ensures) ∙ c .before .before .before .before .before .before .kind3 .given .1) (c .before .before .before .obey .ensures)
+returns-4 c = let x = c .before .before .before in let f = x .before .before .before in step-whole _ _ _ _ (sym (f .before .before .found-at .ensures) ∙ f .kind3 .given .1) (x .obey .ensures)
 
 pub put-step-spec : {M : Type 1} → statement M
 put-step-spec =
@@ -56,16 +62,18 @@ put-step-spec =
     (tie.spec
     found-at-requires
     enum-told
+    put-nothing-requires
     enum-known-kind
     put-answer-requires
     enum-known-kind-2
     put-answer-requires-2
     enum-known-kind-3
     obey-requires
-    returns
     same-length
-    returns-2
+    returns
     same-length-2
-    returns-3
+    returns-2
     same-length-3
+    returns-3
+    same-length-4
     returns-4)
