@@ -24,7 +24,7 @@ pub record Taken (s : List ℕ) (at next : ℕ) : Type 0 where
   pub forward : at < next
   pub inside : next ≤ length s
 
-taken-by : (s : List ℕ) (at : ℕ) (f : Found) → recordAt s at ≡ f → goesOn f ≡ true → Taken s at (nextPlace f at)
+pub taken-by : (s : List ℕ) (at : ℕ) (f : Found) → recordAt s at ≡ f → goesOn f ≡ true → Taken s at (nextPlace f at)
 unfolding goesOn nextPlace
 taken-by s at End h e = let z : _≡_ {A = ℕ} 0 1 = cc in absurd (omega arith)
 taken-by s at (Unknown b) h e = let z : _≡_ {A = ℕ} 0 1 = cc in absurd (omega arith)
@@ -34,7 +34,7 @@ taken-by s at (Whole kind body next) h e =
     let b : bodyLength kind ≡ bodyLength (getD s at 0) = ap bodyLength (w .kind) in
     record { own = omega (arith, w .body, w .next, b); forward = omega (arith, w .body, w .next); inside = w .inside }
 
-stays-by : (f : Found) (at : ℕ) → goesOn f ≡ false → nextPlace f at ≡ at
+pub stays-by : (f : Found) (at : ℕ) → goesOn f ≡ false → nextPlace f at ≡ at
 unfolding goesOn nextPlace
 stays-by End at e = refl
 stays-by (Unknown b) at e = refl
