@@ -34,7 +34,7 @@ use Rattle.transcripts.specs.Lines.{line, answerLine, replyLine, entryLi
 use Rattle.transcripts.specs.Step.{obeyed}
 use Rattle.transcripts.specs.Run.{outcome, goesOn, nextPlace, textFrom, transcript}
 use Rattle.transcripts.specs.Spelled.{callOf, called, placeOf, callsOf}
-use Rattle.transcripts.specs.Reader.{Shown, answerOn, shownIn, askedKnown, knownBy, lineOf, eventsBy}
+use Rattle.transcripts.specs.Reader.{Shown, numbersOn, answerOn, shownIn, sixes, readOne, readTo, askedKnown, knownBy, lineOf, eventsBy}
 
 -- a request of a unit for an address, by UF and RR, other fields zero
 abbrev asks : ℕ → ℕ → ℕ → ℕ → Request
@@ -121,9 +121,16 @@ unfolding blank newline grown parts full linesOf wordsOf valueAfter
 reads-plan = refl
 
 -- a refusal's number, and that of a taken reply with a delay of −1
-reads-answers : (answerOn (plain "11 6 8\n") ∷ answerOn (plain "8 7 0 0 -1\n") ∷ []) ≡ 8 ∷ 0 ∷ []
+reads-answers : (answerOn (numbersOn (plain "11 6 8\n")) ∷ answerOn (numbersOn (plain "8 7 0 0 -1\n")) ∷ []) ≡ 8 ∷ 0 ∷ []
 unfolding blank newline grown parts full linesOf wordsOf valueAfter
 reads-answers = refl
+
+-- the answers of all sixteen records, the newest first, read off the stream and the whole transcript
+reads-off :
+    map (λ (x : Shown). x .number) (readTo every-kind prints 16 .shown)
+    ≡ 4 ∷ 0 ∷ 0 ∷ 4 ∷ 0 ∷ 8 ∷ 0 ∷ 0 ∷ 0 ∷ 0 ∷ 0 ∷ 0 ∷ 0 ∷ 0 ∷ 0 ∷ 0 ∷ []
+unfolding blank newline grown parts full linesOf wordsOf valueAfter bodyLength recordAt nextPlace placeOf callOf sixes readOne readTo
+reads-off = refl
 
 -- from calls and printed numbers written down by hand
 abbrev done : Call → List Shown → List Shown

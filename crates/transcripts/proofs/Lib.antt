@@ -5,6 +5,7 @@ pub mod ReadBack
 pub mod Reader
 pub mod Printed
 pub mod Stands
+pub mod ReadOff
 mod Examples
 mod CaseP1
 mod EveryKind

@@ -39,7 +39,7 @@ use Rattle.transcripts.specs.Lines.{answerLine, replyLine, entryLines, r
 use Rattle.transcripts.specs.Step.{Outcome, repliedTo}
 use Rattle.transcripts.specs.Run.{outcome, begun, runAfter}
 use Rattle.transcripts.specs.Spelled.{numberOf, callOf, called, placeOf, foundAfter, callsOf, Spells, recordLines}
-use Rattle.transcripts.specs.Reader.{Shown, answerOn, shownIn, seen, shownTo, knownBy, boardBy, lineOf, eventsBy}
+use Rattle.transcripts.specs.Reader.{Shown, numbersOn, answerOn, shownIn, seen, shownTo, knownBy, boardBy, lineOf, eventsBy}
 use Rattle.transcripts.specs.Printed.{lastSaidLine, NumberPrinted, boardOn, PlanPrinted, ReplyPrinted, ReplyTold, Told, Printed}
 use Rattle.transcripts.proofs.Spelled.{linesFor, whole-done, MessageBytes, message-bytes, run-at}
 use Rattle.transcripts.proofs.ReadBack.{answer-read, plan-lines-read}
@@ -50,7 +50,7 @@ alone : (n kind number : ℕ) → NumberPrinted n kind number (answerLine n kind
 unfolding answerLine
 alone n kind number =
     let e : answerLine n kind number ≡ answerLine n kind number ++ [] = sym (append-nil _) in
-    record { added = []; below = []; text-is = e; read-as = ap answerOn e ∙ answer-read n kind number [] (all-nil Word) [] }
+    record { added = []; below = []; text-is = e; read-as = ap (λ (t : List ℕ). answerOn (numbersOn t)) e ∙ answer-read n kind number [] (all-nil Word) [] }
 
 with-below : (n kind number : ℕ) (t : List ℕ) → NumberPrinted n kind number (answerLine n kind number ++ t)
 unfolding answerLine
@@ -62,7 +62,7 @@ with-flips n kind flips delay =
     let e : replyLine n kind flips delay ≡ replyLine n kind flips delay ++ [] = sym (append-nil _) in
     let ws = decimal flips ∷ signedDecimal delay ∷ [] in
     let w = all-cons Word _ _ (decimal-word flips) (all-cons Word (signedDecimal delay) [] (signed-word delay) (all-nil Word)) in
-    record { added = ws; below = []; text-is = e; read-as = ap answerOn e ∙ answer-read n kind 0 ws w [] }
+    record { added = ws; below = []; text-is = e; read-as = ap (λ (t : List ℕ). answerOn (numbersOn t)) e ∙ answer-read n kind 0 ws w [] }
 
 reply-number : (n kind : ℕ) (r : Replied) (b : Bool) → eqb (r .number) 0 ≡ b
     → NumberPrinted n kind (r .number) (pick b (replyLine n kind (r .flips) (r .delay)) (answerLine n kind (r .number)))

@@ -74,12 +74,12 @@ numbers-read ns t = line-read (map decimal ns) (decimals ns) t ∙ ap (λ (l : L
 
 -- the answer on a record's line, whatever a reply adds to it and stands below
 pub answer-read : (n kind number : ℕ) (added : List (List ℕ)) → All Word added → (t : List ℕ)
-    → answerOn (line (decimal n ∷ decimal kind ∷ decimal number ∷ added) ++ t) ≡ number
+    → answerOn (numbersOn (line (decimal n ∷ decimal kind ∷ decimal number ∷ added) ++ t)) ≡ number
 answer-read n kind number added h t =
     let ws = decimal n ∷ decimal kind ∷ decimal number ∷ added in
     let w : All Word ws =
     all-cons Word _ _ (decimal-word n) (all-cons Word _ _ (decimal-word kind) (all-cons Word _ _ (decimal-word number) h)) in
-    ap (λ (l : List (List ℕ)). getD (getD l 0 []) 2 0) (line-read ws w t) ∙ decimal-value number
+    ap answerOn (line-read ws w t) ∙ decimal-value number
 
 -- ---- the lines of a plan's entries
 entries-read : (k : ℕ) (es : List Entry) → map entryOn (numbersOn (entryLines k es)) ≡ map entryShown es
@@ -89,7 +89,8 @@ entries-read k (e ∷ es) =
     ap (map entryOn) (numbers-read (k ∷ e .ask .request .unit ∷ e .ask .request .address ∷ e .start ∷ _ ∷ _ ∷ []) (entryLines (suc k) es))
     ∙ ap (λ (l : List EntryShown). entryShown e ∷ l) (entries-read (suc k) es)
 
-pub plan-lines-read : (n kind number tag : ℕ) (es : List Entry) → entriesOn (plan tag) (answerLine n kind number ++ entryLines 0 es) ≡ map entryShown es
+pub plan-lines-read : (n kind number tag : ℕ) (es : List Entry)
+    → entriesOn (plan tag) (numbersOn (answerLine n kind number ++ entryLines 0 es)) ≡ map entryShown es
 unfolding answerLine
 plan-lines-read n kind number tag es =
     ap (λ (l : List (List ℕ)). map entryOn (drop 1 l)) (numbers-read (n ∷ kind ∷ number ∷ []) (entryLines 0 es)) ∙ entries-read 0 es

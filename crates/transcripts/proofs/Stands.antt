@@ -14,7 +14,7 @@ use Rattle.transcripts.proofs.Runs.{stays-by, taken-by}
 use Rattle.transcripts.proofs.Spelled.{leaves}
 
 -- a record that is whole is reached
-whole-reached : (s : List ℕ) (k : ℕ) → goesOn (foundAfter s k) ≡ true → reached s k ≡ true
+pub whole-reached : (s : List ℕ) (k : ℕ) → goesOn (foundAfter s k) ≡ true → reached s k ≡ true
 unfolding reached placeOf
 whole-reached s zero e = refl
 whole-reached s (suc k) e = go (goesOn (foundAfter s k)) refl
@@ -24,7 +24,7 @@ whole-reached s (suc k) e = go (goesOn (foundAfter s k)) refl
     go false h = rw (stays-by (foundAfter s k) (placeOf s k) h) at e
 
 -- and stands behind as many bytes as there are records before it
-within : (s : List ℕ) (k : ℕ) → reached s k ≡ true → (k ≤ placeOf s k) × (placeOf s k ≤ length s)
+pub within : (s : List ℕ) (k : ℕ) → reached s k ≡ true → (k ≤ placeOf s k) × (placeOf s k ≤ length s)
 unfolding reached placeOf
 within s zero e = (omega arith, omega arith)
 within s (suc k) e =
@@ -33,10 +33,10 @@ within s (suc k) e =
     (omega (arith, h .0, t .forward), t .inside)
 
 -- the text of at most j records, behind the first k
-abbrev onward : ℕ → List ℕ → ℕ → List ℕ
+abbrev pub onward : ℕ → List ℕ → ℕ → List ℕ
 onward j s k = textFrom j s (placeOf s k) (suc k) (after (callsOf s k))
 
-one-more : (j : ℕ) (s : List ℕ) (k : ℕ) → onward (suc j) s k ≡ recordLines s k ++ pick (goesOn (foundAfter s k)) (onward j s (suc k)) []
+pub one-more : (j : ℕ) (s : List ℕ) (k : ℕ) → onward (suc j) s k ≡ recordLines s k ++ pick (goesOn (foundAfter s k)) (onward j s (suc k)) []
 unfolding textFrom recordLines placeOf callsOf
 one-more j s k =
     let n : suc k + 1 ≡ suc (suc k) = omega arith in

@@ -22,7 +22,7 @@ use Rattle.histories.specs.History.{Call, setup, new, remove, move, request, pl
 use Rattle.histories.specs.Seen.{AC, ID, Event, inForce, lastSaid, shown}
 use Rattle.transcripts.specs.Lines.{line, answerLine, replyLine, entryLines, reportLine}
 use Rattle.transcripts.specs.Spelled.{numberOf, callOf, foundAfter, recordLines, linesBefore, reached, streamOf}
-use Rattle.transcripts.specs.Reader.{Shown, answerOn, entriesOn, knownBy, askedKnown, boardBy, lineOf, eventsBy}
+use Rattle.transcripts.specs.Reader.{Shown, numbersOn, answerOn, entriesOn, knownBy, askedKnown, boardBy, lineOf, eventsBy}
 use Rattle.transcripts.specs.Run.{goesOn, transcript}
 
 -- number, kind and the table's number, alone on a line
@@ -39,11 +39,11 @@ pub record NumberPrinted (n kind number : ℕ) (text : List ℕ) : Type 0 where
   pub below : List ℕ
   pub text-is : text ≡ line (decimal n ∷ decimal kind ∷ decimal number ∷ added) ++ below
   -- and a reader finds it there
-  pub read-as : answerOn text ≡ number
+  pub read-as : answerOn (numbersOn text) ≡ number
 
 -- the plan that the lines of a record tell, after records that showed v
 abbrev pub boardOn : List Shown → ℕ → List ℕ → Board
-boardOn v tag text = boardBy (knownBy v) (entriesOn (plan tag) text)
+boardOn v tag text = boardBy (knownBy v) (entriesOn (plan tag) (numbersOn text))
 
 -- a plan: the lines are those of the entries that they tell, which meet demand 3 against the waiting list of that moment
 pub record PlanPrinted (n kind : ℕ) (v : List Shown) (tag : ℕ) (text : List ℕ) : Type 0 where

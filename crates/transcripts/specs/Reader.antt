@@ -4,7 +4,7 @@ use Prim.Native.Nat.{ℕ, zero, suc}
 use mathlib.Core.List.{List, [], _∷_, _++_, map}
 use mathlib.Core.Bool.{not}
 use lib.Dec.{eqb}
-use lib.ListN.{getD, drop}
+use lib.ListN.{length, getD, take, drop}
 use Rattle.lists.specs.Lists.{pick, filter}
 use Rattle.letters.specs.Line.{linesOf, wordsOf}
 use Rattle.letters.specs.Number.{valueAfter}
@@ -29,23 +29,23 @@ abbrev pub numbersOn : List ℕ → List (List ℕ)
 numbersOn text = map (λ (l : List ℕ). map (valueAfter 0) (wordsOf l)) (linesOf text)
 
 -- the line of a record: number, kind, answer
-abbrev pub answerOn : List ℕ → ℕ
-answerOn text = getD (getD (numbersOn text) 0 []) 2 0
+abbrev pub answerOn : List (List ℕ) → ℕ
+answerOn ls = getD (getD ls 0 []) 2 0
 
 -- the line of an entry: entry, unit, address, start
 abbrev pub entryOn : List ℕ → EntryShown
 entryOn l = record { unit = getD l 1 0; address = getD l 2 0; start = getD l 3 0 }
 
 -- "a plan adds lines"
-abbrev pub entriesOn : Call → List ℕ → List EntryShown
-entriesOn (setup h) text = []
-entriesOn (new a near far) text = []
-entriesOn (remove a) text = []
-entriesOn (move a near far) text = []
-entriesOn (request q) text = []
-entriesOn (plan tag) text = map entryOn (drop 1 (numbersOn text))
-entriesOn (reply k tag msg marks out) text = []
-entriesOn (report a) text = []
+abbrev pub entriesOn : Call → List (List ℕ) → List EntryShown
+entriesOn (setup h) ls = []
+entriesOn (new a near far) ls = []
+entriesOn (remove a) ls = []
+entriesOn (move a near far) ls = []
+entriesOn (request q) ls = []
+entriesOn (plan tag) ls = map entryOn (drop 1 ls)
+entriesOn (reply k tag msg marks out) ls = []
+entriesOn (report a) ls = []
 
 -- of one record: the call that it spells, the answer on its line, and the lines of a plan's entries
 pub record Shown : Type 0 where
@@ -53,8 +53,11 @@ pub record Shown : Type 0 where
   pub number : ℕ
   pub entries : List EntryShown
 
+abbrev pub shownOn : Call → List (List ℕ) → Shown
+shownOn c ls = record { call = c; number = answerOn ls; entries = entriesOn c ls }
+
 abbrev pub shownIn : Call → List ℕ → Shown
-shownIn c text = record { call = c; number = answerOn text; entries = entriesOn c text }
+shownIn c text = shownOn c (numbersOn text)
 
 -- what a whole record shows by its lines
 unfoldable pub seen : List ℕ → Found → List ℕ → List Shown → List Shown
@@ -67,6 +70,44 @@ seen s (Whole kind body next) text v = shownIn (callOf s kind body) text ∷ v
 unfoldable pub shownTo : List ℕ → ℕ → List Shown
 shownTo s zero = []
 shownTo s (suc k) = seen s (foundAfter s k) (recordLines s k) (shownTo s k)
+
+-- ---- the same, read off a whole transcript
+-- how many lines of six numbers stand first: those of a plan's entries
+unfoldable pub sixes : List (List ℕ) → ℕ
+sixes [] = 0
+sixes (l ∷ ls) = let n = sixes ls in pick (eqb (length l) 6) (suc n) 0
+
+-- how many lines a record has: its own; "a plan adds lines"; "a taken report adds a line"
+abbrev pub countOn : Call → List (List ℕ) → ℕ
+countOn (setup h) ls = 1
+countOn (new a near far) ls = 1
+countOn (remove a) ls = 1
+countOn (move a near far) ls = 1
+countOn (request q) ls = 1
+countOn (plan tag) ls = suc (sixes (drop 1 ls))
+countOn (reply k tag msg marks out) ls = 1
+countOn (report a) ls = pick (eqb (answerOn ls) 0) 2 1
+
+-- what was shown so far, and the lines left
+pub record Reading : Type 0 where
+  pub shown : List Shown
+  pub left : List (List ℕ)
+
+abbrev pub readWhole : Call → Reading → Reading
+readWhole c r =
+    let n = countOn c (r .left) in
+    record { shown = shownOn c (take n (r .left)) ∷ r .shown; left = drop n (r .left) }
+
+unfoldable pub readOne : List ℕ → Found → Reading → Reading
+readOne s End r = r
+readOne s (Unknown b) r = r
+readOne s (Cut kind) r = r
+readOne s (Whole kind body next) r = readWhole (callOf s kind body) r
+
+-- the first k records of a stream, read in a text
+unfoldable pub readTo : List ℕ → List ℕ → ℕ → Reading
+readTo s text zero = record { shown = []; left = numbersOn text }
+readTo s text (suc k) = readOne s (foundAfter s k) (readTo s text k)
 
 -- ---- what a reader knows from it
 -- the setup in force; near and far last told of each address; the requests that wait, the oldest first; tag and lines of the newest plan
