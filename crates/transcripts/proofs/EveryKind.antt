@@ -1,5 +1,5 @@
 -- A run with a record of every kind, computed: replies short and long, one of them corrected and one with the delay −1, reports of what was heard,
--- a move and a removal. Messages are sealed by hand over Annex 10's generator, starts by the requirements' rules.
+-- a move and a removal. Messages were sealed apart from these definitions, over Annex 10's generator; starts are reckoned by hand.
 use Prim.Native.Nat.{ℕ}
 use mathlib.Core.Path.{_≡_, refl}
 use mathlib.Core.List.{List, [], _∷_, _++_, map}
@@ -170,16 +170,18 @@ reads :
 unfolding bits xorBits shiftIn divide remainderOf syndrome weight subsets sumOf filter matching flipped headOf drawn expected valueIn emptied sentFor replyFor apart clear clearOf fits withoutIt toldBy inForce lastSaid knownBy eventsBy
 reads = refl
 
--- what waits before the plan, the oldest first, and what a removal and the plan leave of it
+-- what waits before the plan, the oldest first; what a removal, a refused removal, another setup and the plan leave of it
 abbrev addressOf : Request → ℕ
 addressOf q = q .address
 
 reads-waiting :
     (map addressOf (knownBy before-the-plan .waiting)
     ∷ map addressOf (knownBy (done (remove 1) before-the-plan) .waiting)
+    ∷ map addressOf (knownBy (record { call = remove 1; number = 4; entries = [] } ∷ before-the-plan) .waiting)
+    ∷ map addressOf (knownBy (done (setup (knownBy before-the-plan .setup)) before-the-plan) .waiting)
     ∷ map addressOf (knownBy to-the-long-reply .waiting)
     ∷ [])
-    ≡ (1 ∷ 2 ∷ []) ∷ (2 ∷ []) ∷ [] ∷ []
+    ≡ (1 ∷ 2 ∷ []) ∷ (2 ∷ []) ∷ (1 ∷ 2 ∷ []) ∷ [] ∷ [] ∷ []
 unfolding filter emptied sentFor replyFor apart clear clearOf fits withoutIt toldBy knownBy
 reads-waiting = refl
 

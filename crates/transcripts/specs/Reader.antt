@@ -1,5 +1,5 @@
 -- What a reader of a stream and its transcript sees of each record, and what they find from that alone: the calls are spelled by the stream, and the
--- numbers are read off the lines. Nothing here knows the station.
+-- numbers are read off the lines. Nothing here knows the station but through the lines that a record prints.
 use Prim.Native.Nat.{ℕ, zero, suc}
 use mathlib.Core.List.{List, [], _∷_, _++_, map}
 use mathlib.Core.Bool.{not}
@@ -93,6 +93,7 @@ pub record Reading : Type 0 where
   pub shown : List Shown
   pub left : List (List ℕ)
 
+-- a whole record takes its own lines
 abbrev pub readWhole : Call → Reading → Reading
 readWhole c r =
     let n = countOn c (r .left) in
