@@ -1,6 +1,6 @@
 -- Demand 2, ages: the value in a report, and its age, are what the history says: the last one said since the target came, and the plans since.
-use borrow.Author.Tests.{eqb-true, eqb-false, ne-eqb, ltb-true, ltb-false}
-use Prim.Native.Nat.{ℕ, zero, suc, _+_, min}
+use borrow.Author.Tests.{eqb-true, eqb-false, eq-eqb, ne-eqb, ltb-true, ltb-false}
+use Prim.Native.Nat.{ℕ, suc, _+_, min}
 use native.Mathlib.Omega.{arith}
 use mathlib.Core.Path.{_≡_, refl, sym, ap, subst, _∙_}
 use mathlib.Core.List.{List, [], _∷_, _++_, map}
@@ -8,9 +8,9 @@ use mathlib.Core.Bool.{Bool, true, false, not, _&&_, true≢false, false≢true}
 use lib.ListN.{getD, set}
 use lib.Dec.{eqb, ltb}
 use Rattle.lists.specs.Lists.{pick, filter}
+use Rattle.lists.proofs.Each.{image-set, image-at, image-through}
 use Rattle.fields.specs.Building.{anAddress}
 use Rattle.plans.specs.declared.request.Ask.{Ask}
-use Rattle.plans.specs.declared.entry.Entry.{Entry}
 use Rattle.plans.specs.declared.entry.Mark.the-variants.{Answered}
 use Rattle.plans.specs.declared.setup.Setup.{Setup}
 use Rattle.plans.specs.Demand3.{askOf}
@@ -27,25 +27,11 @@ use Rattle.histories.specs.Planning.{nextPlan}
 use Rattle.histories.specs.Replies.{holdsID, expected, saidID, saidAC, saidIn, targetsHeard, entryNumbered, valueIn, heard}
 use Rattle.histories.specs.History.{Call, setup, new, remove, move, request, plan, reply, report, answer, after}
 use Rattle.histories.specs.Seen.{events, asksShown, outputShown, asksAfter, inForce, Kind, AC, ID, Said, never, said, onePlanMore, draws, isFrom, saidAfter, lastSaid, shown, reportOf}
-use Rattle.histories.proofs.Lookup.{has, look, has-nil, has-snoc, look-snoc, has-map, look-map, has-other, look-other, has-gone, has-put, look-put, look-put-other}
+use Rattle.histories.proofs.Lookup.{has, look, Tells, tells-none, tells-new, tells-removed, tells-put, tells-changed}
 use Rattle.histories.proofs.Came.{Came, refusal, did-setup, did-new, did-remove, did-move, did-request, did-plan, did-reply, did-report, came}
 use Rattle.histories.proofs.Keeping.{targets-are, entries-are, address-of, said-address, heardList}
 
 -- ---- the plan in force, by the station and by what was seen
-map-set : (es : List Entry) (k : ℕ) (x : Entry) → x .ask ≡ getD es k noEntry .ask → map askOf (set es k x) ≡ map askOf es
-map-set [] k x e = refl
-map-set (y ∷ es) zero x e = rw e
-map-set (y ∷ es) (suc k) x e = ap (λ (l : List Ask). y .ask ∷ l) (map-set es k x e)
-
-map-getD : (es : List Entry) (k : ℕ) → getD (map askOf es) k noAsk ≡ getD es k noEntry .ask
-map-getD [] k = refl
-map-getD (y ∷ es) zero = refl
-map-getD (y ∷ es) (suc k) = map-getD es k
-
-map-withdrawn : (a : ℕ) (es : List Entry) → map askOf (map (withdrawn a) es) ≡ map askOf es
-map-withdrawn a [] = refl
-map-withdrawn a (e ∷ es) = ap (λ (l : List Ask). e .ask ∷ l) (map-withdrawn a es)
-
 -- a refused call is passed over
 passed-over : {A : Type 0} (n : ℕ) (x y : A) → (n ≡ 0 → ⊥) → pick (eqb n 0) x y ≡ y
 passed-over n x y e = rw (ne-eqb n 0 e)
@@ -63,13 +49,16 @@ module _ (s : Station) (f : List Ask) (h : Force s f) where
 
   without-force : (a : ℕ) → Force (without a s) f
   unfolding without
-  without-force a = ap (map askOf) (entries-are (map (withdrawn a) (entriesOf (s .plan))) (s .plan)) ∙ map-withdrawn a (entriesOf (s .plan)) ∙ h
+  without-force a =
+      ap (map askOf) (entries-are (map (withdrawn a) (entriesOf (s .plan))) (s .plan))
+      ∙ image-through askOf (withdrawn a) (λ e. refl) (entriesOf (s .plan))
+      ∙ h
 
   heard-force : (k : ℕ) (m : List ℕ) → Force (heard k m s) f
   unfolding heard
   heard-force k m =
       ap (map askOf) (entries-are (set (entriesOf (s .plan)) k (marked Answered (getD (entriesOf (s .plan)) k noEntry))) (s .plan))
-      ∙ map-set (entriesOf (s .plan)) k (marked Answered (getD (entriesOf (s .plan)) k noEntry)) refl
+      ∙ image-set askOf (entriesOf (s .plan)) k noEntry (marked Answered (getD (entriesOf (s .plan)) k noEntry)) refl
       ∙ h
 
   force-next : (c : Call) (r : Answer) → Came s c r → Forced c r
@@ -138,44 +127,32 @@ fresh-value ID a near far = refl
 
 -- ---- the station agrees with what was said, for each target that it holds
 abbrev pub Agree : Kind → ℕ → List Target → Said → Type 0
-Agree i a ts x = has a ts ≡ true → valueOf i (look a ts) ≡ shown x
+Agree i a ts x = Tells (valueOf i) a ts (shown x)
+
+-- what was said is gone with its address, and stays with another
+gone : (a b : ℕ) (x : Said) → b ≡ a → shown (pick (eqb b a) never x) ≡ shown never
+gone a b x e = rw (eq-eqb b a e)
+
+kept : (a b : ℕ) (x : Said) → (b ≡ a → ⊥) → shown x ≡ shown (pick (eqb b a) never x)
+kept a b x n = rw (ne-eqb b a n)
 
 module _ (i : Kind) (a : ℕ) where
   agree-new : (ts : List Target) (x : Said) (b near far : ℕ) → has b ts ≡ false → Agree i a ts x → Agree i a (ts ++ (fresh b near far ∷ [])) (pick (eqb b a) never x)
-  agree-new ts x b near far n h k = ap (valueOf i) (look-snoc a ts (fresh b near far)) ∙ go (eqb b a) refl (has a ts) refl
-    where
-      go : (d : Bool) → eqb b a ≡ d → (e : Bool) → has a ts ≡ e → valueOf i (pick e (look a ts) (pick (eqb b a) (fresh b near far) (fresh 0 0 0))) ≡ shown (pick d never x)
-      go true q true p = absurd (true≢false (sym p ∙ ap (λ (m : ℕ). has m ts) (sym (eqb-true b a q)) ∙ n))
-      go true q false p = rw q (fresh-value i b near far)
-      go false q true p = h p
-      go false q false p = absurd (false≢true (sym (has-snoc a ts (fresh b near far) ∙ (rw (p, q))) ∙ k))
+  agree-new ts x b near far n h =
+      tells-new (valueOf i) a ts (shown x) (shown (pick (eqb b a) never x)) (fresh b near far) n
+      (λ e. fresh-value i b near far ∙ sym (gone a b x e)) (kept a b x) h
 
   agree-remove : (ts : List Target) (x : Said) (b : ℕ) → Agree i a ts x → Agree i a (filter (λ (t : Target). not (isAt b t)) ts) (pick (eqb b a) never x)
-  agree-remove ts x b h k = go (eqb b a) refl
-    where
-      go : (d : Bool) → eqb b a ≡ d → valueOf i (look a (filter (λ (t : Target). not (isAt b t)) ts)) ≡ shown (pick d never x)
-      go true q =
-          absurd (false≢true (sym (ap (λ (m : ℕ). has a (filter (λ (t : Target). not (isAt m t)) ts)) (eqb-true b a q) ∙ has-gone a ts) ∙ k))
-      go false q =
-          let n : a ≡ b → ⊥ = λ e. eqb-false b a q (sym e) in
-          ap (valueOf i) (look-other a b ts n) ∙ h (sym (has-other a b ts n) ∙ k)
+  agree-remove ts x b h = tells-removed (valueOf i) a ts (shown x) (shown (pick (eqb b a) never x)) b (kept a b x) h
 
   -- the target of b is replaced
   agree-put : (ts : List Target) (x x′ : Said) (b : ℕ) (y : Target) → y .address ≡ b → has b ts ≡ true → (b ≡ a → valueOf i y ≡ shown x′) → ((b ≡ a → ⊥) → x′ ≡ x) → Agree i a ts x → Agree i a (set ts (placeIn ts b) y) x′
-  agree-put ts x x′ b y same m at off h k = go (eqb b a) refl
-    where
-      go : (d : Bool) → eqb b a ≡ d → valueOf i (look a (set ts (placeIn ts b) y)) ≡ shown x′
-      go true q =
-          let e = eqb-true b a q in
-          ap (λ (n : ℕ). valueOf i (look n (set ts (placeIn ts b) y))) (sym e) ∙ ap (valueOf i) (look-put b y same ts m) ∙ at e
-      go false q =
-          let n : a ≡ b → ⊥ = λ e. eqb-false b a q (sym e) in
-          ap (valueOf i) (look-put-other a b y same ts n) ∙ h (sym (has-put a b y same ts) ∙ k) ∙ ap shown (sym (off (eqb-false b a q)))
+  agree-put ts x x′ b y same m at off h = tells-put (valueOf i) a ts (shown x) (shown x′) b y same m at (λ n. ap shown (sym (off n))) h
 
   agree-plan : (ts : List Target) (x : Said) → Agree i a ts x → Agree i a (map older ts) (onePlanMore x)
-  agree-plan ts x h k =
-      let m = sym (has-map a older (λ t. refl) ts) ∙ k in
-      ap (valueOf i) (look-map a older (λ t. refl) ts m) ∙ older-value i (look a ts) ∙ ap valueAfter (h m) ∙ older-shown x
+  agree-plan ts x h =
+      tells-changed (valueOf i) a older (λ t. refl) ts (shown x) (shown (onePlanMore x))
+      (λ t e. older-value i t ∙ ap valueAfter e ∙ older-shown x) h
 
   -- a reply that is taken
   module _ (t : Targets) (x : Said) (q : Ask) (v : ℕ) (h : Agree i a (targetsOf t) x) where
@@ -211,7 +188,7 @@ module _ (i : Kind) (a : ℕ) where
 
   nothing : (h : Setup) (s : Station) → Agree i a (targetsOf (emptied h s .targets)) never
   unfolding emptied
-  nothing h s k = absurd (false≢true (sym (has-nil a) ∙ k))
+  nothing h s = tells-none (valueOf i) a (shown never)
 
   -- ---- call by call
   module _ (s : Station) (f : List Ask) (x : Said) (hf : Force s f) (h : Agree i a (targetsOf (s .targets)) x) where
@@ -234,7 +211,7 @@ module _ (i : Kind) (a : ℕ) where
     unfolding heard
     next-heard k m =
         subst (λ (q : Ask). Agree i a (targetsOf (targetsHeard (entryNumbered k s .ask .request) (valueIn m) (s .targets))) (pick (isFrom i a q) (said (valueIn m) 0) x))
-        (sym (map-getD (entriesOf (s .plan)) k) ∙ ap (λ (l : List Ask). getD l k noAsk) hf)
+        (sym (image-at askOf (entriesOf (s .plan)) k noEntry) ∙ ap (λ (l : List Ask). getD l k noAsk) hf)
         (agree-heard (s .targets) x (entryNumbered k s .ask) (valueIn m) h)
 
     agree-next : (c : Call) (r : Answer) → Came s c r → Next c (outputShown s c) r

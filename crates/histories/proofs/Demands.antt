@@ -37,7 +37,7 @@ ages cs = record { told = report-is cs }
 
 -- demand 2, replies
 pub replies : (cs : List Call) (k tag : ℕ) (msg marks out : List ℕ) → AreBytes msg → replied (after cs) k tag msg marks out .number ≡ 0 → Believed (after cs) k msg marks (replied (after cs) k tag msg marks out)
-replies cs k tag msg marks out bytes e = believed (after cs) k msg marks out bytes tag e
+replies cs k tag msg marks out bytes e = believed (after cs) k tag msg marks out bytes e
 
 -- ---- demand 3
 -- what is left waits with near and far of its target, as it was asked
@@ -49,7 +49,7 @@ unfolding All
 same-back t [] h = refl
 same-back t (a ∷ v) h = ap₂ (λ (x : Ask) (l : List Ask). x ∷ l) (h .0) (same-back t v (h .1))
 
-left-back : (s : Station) → Kept s → (tag : ℕ) → map (askFor (s .targets)) (requestsOf (nextPlan s tag .waiting)) ≡ boardFor s .waiting
+pub left-back : (s : Station) → Kept s → (tag : ℕ) → map (askFor (s .targets)) (requestsOf (nextPlan s tag .waiting)) ≡ boardFor s .waiting
 unfolding boardFor asked All
 left-back s h tag =
     ap (map (askFor (s .targets))) (plan-leaves s tag)

@@ -1,10 +1,10 @@
 -- The target of an address in a list, and what each change of the list does to it.
-use borrow.Author.Tests.{eqb-true, eq-eqb, ne-eqb, lt-ltb, le-ltb, ltb-true, ltb-false}
+use borrow.Author.Tests.{eqb-true, eqb-false, eq-eqb, ne-eqb, lt-ltb, le-ltb, ltb-true, ltb-false}
 use Prim.Native.Nat.{ℕ, suc}
 use native.Mathlib.Omega.{arith}
 use mathlib.Core.Path.{_≡_, refl, sym, ap, _∙_}
 use mathlib.Core.List.{List, [], _∷_, _++_, map}
-use mathlib.Core.Bool.{Bool, true, false, not, false≢true}
+use mathlib.Core.Bool.{Bool, true, false, not, true≢false, false≢true}
 use lib.ListN.{length, getD, set}
 use lib.Dec.{eqb, ltb}
 use Rattle.lists.specs.Lists.{pick, indexOf, filter}
@@ -165,3 +165,54 @@ look-put a y same (x ∷ ts) h = ap (λ (m : ℕ). look a (set (x ∷ ts) m y)) 
     go : (c : Bool) → isAt a x ≡ c → pick c true (has a ts) ≡ true → (has a ts ≡ true → look a (set ts (placeIn ts a) y) ≡ y) → look a (pick c (y ∷ ts) (x ∷ set ts (placeIn ts a) y)) ≡ y
     go true e t ih = look-cons a y ts ∙ (rw (y-at a a y same))
     go false e t ih = look-cons a x _ ∙ (rw e (ih t))
+
+-- ---- what the target of an address tells, followed through each change of the list
+module _ {B : Type 0} (f : Target → B) (a : ℕ) where
+  -- the target of the address, where one is held, tells x
+  abbrev pub Tells : List Target → B → Type 0
+  Tells ts x = has a ts ≡ true → f (look a ts) ≡ x
+
+  pub tells-none : (x : B) → Tells [] x
+  tells-none x k = absurd (false≢true (sym (has-nil a) ∙ k))
+
+  -- one more, of an address that was not held
+  pub tells-new : (ts : List Target) (x y : B) (t : Target) → has (t .address) ts ≡ false → (t .address ≡ a → f t ≡ y) → ((t .address ≡ a → ⊥) → x ≡ y)
+      → Tells ts x → Tells (ts ++ (t ∷ [])) y
+  tells-new ts x y t n at off h k = ap f (look-snoc a ts t) ∙ go (eqb (t .address) a) refl (has a ts) refl
+    where
+      go : (d : Bool) → eqb (t .address) a ≡ d → (e : Bool) → has a ts ≡ e → f (pick e (look a ts) (pick (eqb (t .address) a) t (fresh 0 0 0))) ≡ y
+      go true q true p = absurd (true≢false (sym p ∙ ap (λ (m : ℕ). has m ts) (sym (eqb-true (t .address) a q)) ∙ n))
+      go true q false p = rw q (at (eqb-true (t .address) a q))
+      go false q true p = h p ∙ off (eqb-false (t .address) a q)
+      go false q false p = absurd (false≢true (sym (has-snoc a ts t ∙ (rw (p, q))) ∙ k))
+
+  -- those of an address are gone
+  pub tells-removed : (ts : List Target) (x y : B) (b : ℕ) → ((b ≡ a → ⊥) → x ≡ y) → Tells ts x → Tells (filter (λ (t : Target). not (isAt b t)) ts) y
+  tells-removed ts x y b off h k = go (eqb b a) refl
+    where
+      go : (d : Bool) → eqb b a ≡ d → f (look a (filter (λ (t : Target). not (isAt b t)) ts)) ≡ y
+      go true q =
+          absurd (false≢true (sym (ap (λ (m : ℕ). has a (filter (λ (t : Target). not (isAt m t)) ts)) (eqb-true b a q) ∙ has-gone a ts) ∙ k))
+      go false q =
+          let n : a ≡ b → ⊥ = λ e. eqb-false b a q (sym e) in
+          ap f (look-other a b ts n) ∙ h (sym (has-other a b ts n) ∙ k) ∙ off (eqb-false b a q)
+
+  -- another stands in the place of one of its address
+  pub tells-put : (ts : List Target) (x y : B) (b : ℕ) (t : Target) → t .address ≡ b → has b ts ≡ true → (b ≡ a → f t ≡ y) → ((b ≡ a → ⊥) → x ≡ y)
+      → Tells ts x → Tells (set ts (placeIn ts b) t) y
+  tells-put ts x y b t same m at off h k = go (eqb b a) refl
+    where
+      go : (d : Bool) → eqb b a ≡ d → f (look a (set ts (placeIn ts b) t)) ≡ y
+      go true q =
+          let e = eqb-true b a q in
+          ap (λ (n : ℕ). f (look n (set ts (placeIn ts b) t))) (sym e) ∙ ap f (look-put b t same ts m) ∙ at e
+      go false q =
+          let n : a ≡ b → ⊥ = λ e. eqb-false b a q (sym e) in
+          ap f (look-put-other a b t same ts n) ∙ h (sym (has-put a b t same ts) ∙ k) ∙ off (eqb-false b a q)
+
+  -- each is changed, and keeps its address
+  pub tells-changed : (g : Target → Target) → ((t : Target) → g t .address ≡ t .address) → (ts : List Target) (x y : B) → ((t : Target) → f t ≡ x → f (g t) ≡ y)
+      → Tells ts x → Tells (map g ts) y
+  tells-changed g same ts x y to h k =
+      let m = sym (has-map a g same ts) ∙ k in
+      ap f (look-map a g same ts m) ∙ to (look a ts) (h m)

@@ -1,52 +1,101 @@
--- Demand 2, replies: what a taken reply writes is the one message that its marks allow over the entry's address, of the expected format.
+-- Demand 2, replies: what a taken reply writes is the one message that its marks allow over the entry's address, of the expected format; and its delay.
 use borrow.Author.Tests.{eqb-true, eqb-false}
 use Prim.Native.Nat.{ℕ}
-use mathlib.Core.Path.{_≡_, refl, _∙_}
-use mathlib.Core.List.{List}
-use mathlib.Core.Bool.{Bool, true, false, not}
-use lib.Dec.{eqb, ltb}
+use mathlib.Core.Path.{_≡_, refl, sym, ap, _∙_}
+use mathlib.Core.List.{List, [], _∷_}
+use mathlib.Core.Bool.{Bool, true, false}
+use lib.Dec.{eqb, leb}
 use lib.ListN.{length}
 use Rattle.lists.specs.Lists.{pick}
 use Rattle.remainders.specs.declared.answers.Fix.the-variants.{Flips}
-use Rattle.remainders.specs.Answers.{Outcome, said}
-use Rattle.remainders.specs.Correction.{sized, correction}
-use Rattle.remainders.specs.Messages.{AreBytes}
+use Rattle.remainders.specs.Answers.{Outcome, said, refused}
+use Rattle.remainders.specs.Correction.{weight, matching, want, judged, sized, ranged, correction}
+use Rattle.remainders.specs.Messages.{AreBytes, bits}
 use Rattle.remainders.proofs.Outcomes as parity
-use Rattle.fields.specs.Formats.{lengthOf}
 use Rattle.fields.specs.Reading.{formatOf}
 use Rattle.histories.specs.declared.state.Station.{Station}
-use Rattle.histories.specs.State.{entriesOf}
-use Rattle.histories.specs.Replies.{expected, entryNumbered, isOpen, startOf, inWindow, ofFormat, Replied, refusedReply, settled, corrected, replied}
-use Rattle.histories.specs.Numbers.{requestAt}
+use Rattle.histories.specs.Replies.{expected, entryNumbered, startOf, delayOf, ofFormat, Replied, corrected, replied}
+use Rattle.histories.specs.Numbers.{matchesOf, correctedBy, requestAt}
 use Rattle.histories.specs.Demands.{Believed}
+use Rattle.histories.proofs.Came.{CameReply, refusal-reply, took, takenWith, came-reply}
 
-module _ (s : Station) (k : ℕ) (msg marks out : List ℕ) (bytes : AreBytes msg) where
-  abbrev True : Replied → Type 0
-  True r = r .number ≡ 0 → Believed s k msg marks r
+-- an outcome that passes for its format is that of the correction, and has the format
+of-format : (f : ℕ) (out : List ℕ) (c : Outcome) → ofFormat f out c .number ≡ 0 → (ofFormat f out c ≡ c) × (formatOf (c .output) ≡ f)
+unfolding ofFormat
+of-format f out c = go (eqb (c .number) 0) refl (eqb (formatOf (c .output)) f) refl
+  where
+    by : Bool → Bool → Outcome
+    by a b = pick a (pick b c (record { number = 14; flips = 0; output = out })) c
 
-  check : (b : Bool) (n : ℕ) (y : Replied) → eqb n 0 ≡ false → True y → True (pick b (refusedReply n out s) y)
-  check true n y z h = λ q. absurd (eqb-false n 0 z q)
-  check false n y z h = h
+    go : (a : Bool) → eqb (c .number) 0 ≡ a → (b : Bool) → eqb (formatOf (c .output)) f ≡ b → by a b .number ≡ 0 → (by a b ≡ c) × (formatOf (c .output) ≡ f)
+    go true e true g q = (refl, eqb-true (formatOf (c .output)) f g)
+    go true e false g q = absurd (eqb-false 14 0 refl q)
+    go false e b g q = absurd (eqb-false (c .number) 0 e q)
+
+-- what a correction writes is the message with the one subset flipped
+by-matches : (msg out : List ℕ) (ss : List (List ℕ)) → judged msg out ss .number ≡ 0 → judged msg out ss .output ≡ correctedBy msg ss
+by-matches msg out [] q = absurd (eqb-false 12 0 refl q)
+by-matches msg out (s ∷ []) q = refl
+by-matches msg out (s ∷ t ∷ r) q = absurd (eqb-false 13 0 refl q)
+
+correction-writes : (msg marks : List ℕ) (overlay limit : ℕ) (out : List ℕ) → correction msg marks overlay limit out .number ≡ 0
+    → correction msg marks overlay limit out .output ≡ correctedBy msg (matching (want msg overlay) (bits marks))
+unfolding correction
+correction-writes msg marks overlay limit out =
+    go (sized (length msg) (length marks) (length out)) (ranged overlay limit) (leb (weight (bits marks)) limit)
+  where
+    found : List (List ℕ)
+    found = matching (want msg overlay) (bits marks)
+
+    by : Bool → Bool → Bool → Outcome
+    by x y z = pick x (pick y (pick z (judged msg out found) (refused 11 out)) (refused 2 out)) (refused 1 out)
+
+    go : (x y z : Bool) → by x y z .number ≡ 0 → by x y z .output ≡ correctedBy msg found
+    go true true true q = by-matches msg out found q
+    go true true false q = absurd (eqb-false 11 0 refl q)
+    go true false z q = absurd (eqb-false 2 0 refl q)
+    go false y z q = absurd (eqb-false 1 0 refl q)
+
+-- ---- a reply that was taken
+pub record Taken (s : Station) (k tag : ℕ) (msg marks out : List ℕ) (r : Replied) : Type 0 where
+  pub correction-is : said (Flips (r .flips)) (r .output) ≡ correction msg marks (requestAt k s .address) (s .setup .limit) out
+  pub writes : r .output ≡ correctedBy msg (matchesOf (requestAt k s) msg marks)
+  pub format : formatOf (r .output) ≡ expected (requestAt k s)
+  pub delay-is : r .delay ≡ delayOf (entryNumbered k s) (startOf tag (s .plan .tag))
+
+module _ (s : Station) (k tag : ℕ) (msg marks out : List ℕ) where
+  abbrev corrects : Outcome
+  corrects = correction msg marks (requestAt k s .address) (s .setup .limit) out
 
   whole : (c : Outcome) → c .number ≡ 0 → said (Flips (c .flips)) (c .output) ≡ c
   whole c e = rw (← e)
 
-  -- by the correction c over the entry's address, and the format f
-  by-correction : (start f : ℕ) (c : Outcome) → c ≡ correction msg marks (requestAt k s .address) (s .setup .limit) out → f ≡ expected (requestAt k s) → True (settled k start out (ofFormat f out c) s)
-  unfolding settled ofFormat
-  by-correction start f c ce fe = go (eqb (c .number) 0) refl (eqb (formatOf (c .output)) f) refl
-    where
-      go : (a : Bool) → eqb (c .number) 0 ≡ a → (b : Bool) → eqb (formatOf (c .output)) f ≡ b → True (settled k start out (pick a (pick b c (record { number = 14; flips = 0; output = out })) c) s)
-      go true e true g = rw e (λ q. record { corrected = parity.corrected msg marks (requestAt k s .address) (s .setup .limit) out (c .output) bytes (c .flips) (whole c (eqb-true (c .number) 0 e) ∙ ce); format = eqb-true (formatOf (c .output)) f g ∙ fe })
-      go true e false g = λ q. absurd (eqb-false 14 0 refl q)
-      go false e b g = rw e (λ q. absurd (eqb-false (c .number) 0 e q))
+  taken-with : (o : Outcome) → o ≡ corrected k msg marks out s → o .number ≡ 0 → Taken s k tag msg marks out (takenWith s k tag o)
+  unfolding corrected
+  taken-with o e z =
+      let f = of-format (expected (requestAt k s)) out corrects (sym (ap (λ (x : Outcome). x .number) e) ∙ z) in
+      let c : o ≡ corrects = e ∙ f .0 in
+      record {
+        correction-is = whole o z ∙ c;
+        writes =
+            ap (λ (x : Outcome). x .output) c
+            ∙ correction-writes msg marks (requestAt k s .address) (s .setup .limit) out (sym (ap (λ (x : Outcome). x .number) c) ∙ z);
+        format = ap (λ (x : Outcome). formatOf (x .output)) c ∙ f .1;
+        delay-is = refl;
+      }
 
-  pub believed : (tag : ℕ) → True (replied s k tag msg marks out)
-  unfolding replied corrected
-  believed tag =
-      check (not (sized (length msg) (length marks) (length out))) 1 _ refl
-      (check (not (ltb k (length (entriesOf (s .plan))))) 7 _ refl
-      (check (not (isOpen (entryNumbered k s .mark))) 8 _ refl
-      (check (not (eqb (length msg) (lengthOf (expected (entryNumbered k s .ask .request))))) 9 _ refl
-      (check (not (inWindow (entryNumbered k s) (startOf tag (s .plan .tag)))) 10 _ refl
-      (by-correction (startOf tag (s .plan .tag)) (expected (requestAt k s)) (correction msg marks (requestAt k s .address) (s .setup .limit) out) refl refl)))))
+  pub taken : replied s k tag msg marks out .number ≡ 0 → Taken s k tag msg marks out (replied s k tag msg marks out)
+  taken = go (replied s k tag msg marks out) (came-reply s k tag msg marks out)
+    where
+      go : (r : Replied) → CameReply s k tag msg marks out r → r .number ≡ 0 → Taken s k tag msg marks out r
+      go r (refusal-reply n z e) q = absurd (z (sym (ap (λ (x : Replied). x .number) e) ∙ q))
+      go r (took o c z e) q = rw e (taken-with o c z)
+
+  pub believed : AreBytes msg → replied s k tag msg marks out .number ≡ 0 → Believed s k msg marks (replied s k tag msg marks out)
+  believed bytes z =
+      let r = replied s k tag msg marks out in
+      let t = taken z in
+      record {
+        corrected = parity.corrected msg marks (requestAt k s .address) (s .setup .limit) out (r .output) bytes (r .flips) (t .correction-is);
+        format = t .format;
+      }

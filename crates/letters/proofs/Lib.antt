@@ -5,6 +5,7 @@ pub mod Decimal
 pub mod Runs
 pub mod Lines
 pub mod Words
+pub mod Parted
 pub mod HexMade
 pub mod HexRead
 pub mod Signs

@@ -1,7 +1,7 @@
 -- What holds of each element: at a place, where one is replaced, where some are kept, and of the images under a function.
 use Prim.Native.Nat.{ℕ, zero, suc, _≤_, _<_}
 use native.Mathlib.Omega.{arith}
-use mathlib.Core.Path.{_≡_, refl, sym, ap, _∙_}
+use mathlib.Core.Path.{_≡_, refl, sym, ap, ap₂, _∙_}
 use mathlib.Core.List.{List, [], _∷_, map}
 use mathlib.Core.Bool.{Bool, true, false, not}
 use lib.ListN.{length, getD, set}
@@ -68,3 +68,23 @@ module _ {A B : Type 0} (f : A → B) where
   unfolding countOf
   count-image q [] = refl
   count-image q (x ∷ v) = rw (count-image q v)
+
+  -- the images where one element is replaced by one of the same image, at a place, where two functions agree, and where a change does not show
+  pub image-set : (v : List A) (k : ℕ) (d y : A) → f y ≡ f (getD v k d) → map f (set v k y) ≡ map f v
+  image-set [] k d y e = refl
+  image-set (x ∷ v) zero d y e = ap (λ (z : B). z ∷ map f v) e
+  image-set (x ∷ v) (suc k) d y e = ap (λ (l : List B). f x ∷ l) (image-set v k d y e)
+
+  pub image-at : (v : List A) (k : ℕ) (d : A) → getD (map f v) k (f d) ≡ f (getD v k d)
+  image-at [] k d = refl
+  image-at (x ∷ v) zero d = refl
+  image-at (x ∷ v) (suc k) d = image-at v k d
+
+  pub image-same : (g : A → B) (v : List A) → All (λ (x : A). f x ≡ g x) v → map f v ≡ map g v
+  unfolding All
+  image-same g [] h = refl
+  image-same g (x ∷ v) h = ap₂ (λ (y : B) (l : List B). y ∷ l) (h .0) (image-same g v (h .1))
+
+  pub image-through : (g : A → A) → ((x : A) → f (g x) ≡ f x) → (v : List A) → map f (map g v) ≡ map f v
+  image-through g h [] = refl
+  image-through g h (x ∷ v) = ap₂ (λ (y : B) (l : List B). y ∷ l) (h x) (image-through g h v)

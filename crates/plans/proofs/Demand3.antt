@@ -52,7 +52,7 @@ accepted s h =
     }
 
 -- the limits of each pass are within the ceilings
-Within : Setup → List ℕ → Type 0
+pub Within : Setup → List ℕ → Type 0
 Within s limits = (v : ℕ) → share limits v ≤ share (s .ceiling) v
 
 turn-within : (s : Setup) → Accepted s → (n : ℕ) → n < 8 → Within s (alone n (s .guarantee))
@@ -71,7 +71,7 @@ module _ (s : Setup) (ok : Accepted s) (w : List Ask) (Q : List Entry → List A
   of-turns zero h = start
   of-turns (suc n) h = step (alone n (s .guarantee)) (turn-within s ok n h) _ _ _ _ (passed (s .period) (alone n (s .guarantee)) (turns (s .period) (s .guarantee) n (nothingPlaced w) .placed) (turns (s .period) (s .guarantee) n (nothingPlaced w) .waiting)) (of-turns n (omega arith))
 
-  of-plan : Q (plan s w .placed) (plan s w .waiting)
+  pub of-plan : Q (plan s w .placed) (plan s w .waiting)
   unfolding plan Within
   of-plan = step (s .ceiling) (λ v. le-refl _) _ _ _ _ (passed (s .period) (s .ceiling) (firstPhase s w .placed) (firstPhase s w .waiting)) (of-turns 8 (le-refl 8))
 

@@ -16,7 +16,7 @@ use Rattle.lists.proofs.Held.{all-nil, all-cons, all-head, all-tail, all-snoc}
 use Rattle.plans.specs.declared.request.Ask.{Ask}
 use Rattle.plans.specs.declared.entry.Entry.{Entry}
 use Rattle.plans.specs.declared.entry.Mark.the-variants.{Open}
-use Rattle.plans.specs.declared.plan.Place.the-variants.{At}
+use Rattle.plans.specs.declared.plan.Place.the-variants.{At, Nowhere}
 use Rattle.plans.specs.Exchange.{entryAt, spans, clear}
 use Rattle.plans.specs.Fits.{clearOf, fits, place}
 use Rattle.plans.specs.Shares.{share}
@@ -64,6 +64,16 @@ Unfit L es a = (t : ℕ) → fits L es (entryAt a t) ≡ false
 -- why a request stays in a pass
 abbrev pub Left : ℕ → List ℕ → List Entry → Ask → Type 0
 Left L limits es a = (share limits (a .request .unit) ≤ taken (a .request .unit) es) ⊎ Unfit L es a
+
+-- and it stays so among more
+module _ (L : ℕ) (limits : List ℕ) (es : List Entry) where
+  pub left-of : (a : Ask) → (share limits (a .request .unit) ≤ taken (a .request .unit) es) ⊎ (place L es a ≡ Nowhere) → Left L limits es a
+  left-of a (inl h) = inl h
+  left-of a (inr h) = inr (nowhere-fits L es a h)
+
+  pub left-more : (e : Entry) (a : Ask) → Left L limits es a → Left L limits (es ++ (e ∷ [])) a
+  left-more e a (inl h) = inl (omega (arith, h, count-snoc (λ (d : Entry). ofUnit (a .request .unit) (d .ask)) es e))
+  left-more e a (inr h) = inr (λ t. unfit-more L es e (entryAt a t) (h t))
 
 -- what a pass adds behind those placed
 pub record Added (es es′ : List Entry) (w : List Ask) : Type 0 where

@@ -6,3 +6,4 @@ pub mod Windows
 pub mod Keeps
 pub mod Guarantee
 pub mod Demand3
+pub mod Told

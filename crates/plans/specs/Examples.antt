@@ -1,10 +1,10 @@
 -- The examples of document 01 that speak of plans and shares, and cases worked by hand from its rules: what the definitions give
 -- beside what the paper gives.
-use Prim.Native.Nat.{ℕ}
+use Prim.Native.Nat.{ℕ, _+_, _*_}
 use mathlib.Core.Path.{refl}
 use mathlib.Core.List.{List, [], _∷_, map}
 use Rattle.lists.specs.Listing.{Row, row, Agrees}
-use Rattle.lists.specs.Lists.{countOf, total, every}
+use Rattle.lists.specs.Lists.{countOf, filter, total, every}
 use Rattle.plans.specs.declared.request.Ask.{Ask}
 use Rattle.plans.specs.declared.entry.Entry.{Entry}
 use Rattle.plans.specs.declared.setup.Setup.{Setup}
@@ -12,6 +12,7 @@ use Rattle.plans.specs.Exchange.{Course, derived, sentShort, sentLong, s
 use Rattle.plans.specs.Fits.{clearOf, fits, first, place}
 use Rattle.plans.specs.Shares.{sharesFit, judged}
 use Rattle.plans.specs.Plan.{Board, tried, pass, alone, turns, plan}
+use Rattle.plans.specs.Told.{EntryShown, withoutIt, toldBy}
 
 -- a setup with the shares of the first two units
 abbrev setup : ℕ → ℕ → List ℕ → List ℕ → Setup
@@ -127,6 +128,41 @@ plans =
     ∷ row (placed to-ceiling) (1 ∷ 2 ∷ [])
     ∷ row (left to-ceiling) (3 ∷ [])
     ∷ []
+
+-- ---- plans told by their lines: unit, address and start
+abbrev shows : ℕ → ℕ → ℕ → EntryShown
+shows unit address start = record { unit = unit; address = address; start = start }
+
+-- unit 0 asks address 1 three times, in a period of 1811: with a Comm-B message, which ends at 2016; by UF 20 and by UF 4, which end at 1792
+abbrev three-times : List Ask
+three-times = ask 0 1 4 16 1000 1004 ∷ ask 0 1 20 0 1000 1004 ∷ ask 0 1 4 0 1000 1004 ∷ []
+
+-- UF and RR of a request
+abbrev formats : Ask → ℕ
+formats a = a .request .uf * 100 + a .request .rr
+
+abbrev told : List EntryShown → List Ask → Board
+told ls w = toldBy 1811 [] ls w
+
+abbrev toldPlaced : List EntryShown → List Ask → List ℕ
+toldPlaced ls w = map (λ (e : Entry). formats (e .ask)) (told ls w .placed)
+
+abbrev toldLeft : List EntryShown → List Ask → List ℕ
+toldLeft ls w = map formats (told ls w .waiting)
+
+-- the line at 0 is of UF 20, the oldest that fits; a line of another unit, and one of another address, is of its own request; without a line all is left
+abbrev lines : List Row
+lines =
+    row (toldPlaced (shows 0 1 0 ∷ []) three-times) (2000 ∷ [])
+    ∷ row (toldLeft (shows 0 1 0 ∷ []) three-times) (416 ∷ 400 ∷ [])
+    ∷ row (toldLeft (shows 1 1 0 ∷ []) (brief 0 1 ∷ ask 1 1 5 0 1000 1004 ∷ [])) (400 ∷ [])
+    ∷ row (toldLeft (shows 0 2 0 ∷ []) (brief 0 1 ∷ ask 0 2 5 0 1000 1004 ∷ [])) (400 ∷ [])
+    ∷ row (toldLeft [] three-times) (416 ∷ 2000 ∷ 400 ∷ [])
+    ∷ []
+
+lines-agree : Agrees lines
+unfolding filter sentFor replyFor apart clear clearOf fits withoutIt toldBy
+lines-agree = (refl, (refl, (refl, (refl, (refl, tt)))))
 
 exchanges-agree : Agrees exchanges
 unfolding sentFor replyFor

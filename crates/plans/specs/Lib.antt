@@ -4,4 +4,5 @@ pub mod Fits
 pub mod Shares
 pub mod Plan
 pub mod Demand3
+pub mod Told
 pub mod Examples

@@ -6,12 +6,11 @@ use mathlib.Core.Bool.{true, false}
 use mathlib.Core.List.{List, _++_}
 use lib.ListN.{length, take, drop, length-take, length-append}
 use lib.Seq.{take-at}
-use borrow.Author.Tests.{leb-false}
 use Rattle.letters.proofs.Laid.{length-laid, laid-split}
 use Rattle.transcripts.specs.declared.run.Run.{Run}
 use Rattle.transcripts.specs.declared.run.Progress.{Progress}
 use Rattle.transcripts.specs.Run.{linesNow, isFull, room}
-use Rattle.transcripts.proofs.Runs.{left, falls}
+use Rattle.transcripts.proofs.Runs.{left, falls, not-full}
 use Rattle.stream.specs.Calls.{Advanced}
 
 -- the bytes left fall with each step, so the program ends
@@ -20,10 +19,9 @@ falls-after {s} {r = r} a e = rw (a .run) (falls s r e)
 
 -- what is held then is what was held, and the record's lines whole, if there was room for one record more
 pub shown : {s l m : List ℕ} {r : Run} {at : ℕ} {q : Progress} → length l ≡ room → isFull at ≡ false → Advanced s r at l m q → take (q .end) m ≡ take at l ++ linesNow s r
-unfolding isFull
 shown {s} {l} {m} {r} {at} {q} z f a =
     let t = linesNow s r in
-    let free : at < 988 = leb-false 988 at f in
+    let free = not-full at f in
     let end : q .end ≡ at + length t = omega (arith, a .lines .put .next, a .lines .short) in
     let fits : at + length t ≤ length l = omega (arith, a .lines .put .next, a .lines .short) in
     let front : length (take at l ++ t) ≡ q .end = simp (length-append, length-take) (omega arith) in

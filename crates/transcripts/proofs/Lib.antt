@@ -1,4 +1,11 @@
--- The theorems on runs, and the examples of document 01 computed from the definitions.
+-- The theorems on runs, on the calls that records spell, on what a reader finds and on each record's lines; and worked streams.
 pub mod Runs
+pub mod Spelled
+pub mod ReadBack
+pub mod Reader
+pub mod Printed
+pub mod Stands
+pub mod ReadOff
 mod Examples
 mod CaseP1
+mod EveryKind

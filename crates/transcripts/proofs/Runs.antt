@@ -6,7 +6,7 @@ use mathlib.Core.Path.{_≡_, refl, sym, ap, _∙_}
 use mathlib.Core.Bool.{Bool, true, false}
 use mathlib.Core.List.{List, [], _++_, append-nil, append-assoc}
 use lib.ListN.{length, getD, take, length-take}
-use borrow.Author.Tests.{le-leb}
+use borrow.Author.Tests.{le-leb, leb-false}
 use Rattle.lists.specs.Lists.{pick}
 use Rattle.records.specs.declared.reading.Found.{Found}
 use Rattle.records.specs.declared.reading.Found.the-variants.{End, Unknown, Cut, Whole}
@@ -14,7 +14,7 @@ use Rattle.records.specs.Records.{bodyLength, recordAt}
 use Rattle.records.proofs.Steps.{whole-fits}
 use Rattle.histories.specs.declared.state.Station.{Station}
 use Rattle.transcripts.specs.declared.run.Run.{Run}
-use Rattle.transcripts.specs.Run.{outcome, goesOn, nextPlace, textFrom, transcript, begun, outcomeNow, linesNow, stepped, advanced, written, runAfter, isFull, writtenLate}
+use Rattle.transcripts.specs.Run.{outcome, goesOn, nextPlace, textFrom, transcript, begun, outcomeNow, linesNow, stepped, advanced, written, runAfter, room, longest, isFull, writtenLate}
 
 -- ---- a step takes each byte at most once
 
@@ -24,7 +24,7 @@ pub record Taken (s : List ℕ) (at next : ℕ) : Type 0 where
   pub forward : at < next
   pub inside : next ≤ length s
 
-taken-by : (s : List ℕ) (at : ℕ) (f : Found) → recordAt s at ≡ f → goesOn f ≡ true → Taken s at (nextPlace f at)
+pub taken-by : (s : List ℕ) (at : ℕ) (f : Found) → recordAt s at ≡ f → goesOn f ≡ true → Taken s at (nextPlace f at)
 unfolding goesOn nextPlace
 taken-by s at End h e = let z : _≡_ {A = ℕ} 0 1 = cc in absurd (omega arith)
 taken-by s at (Unknown b) h e = let z : _≡_ {A = ℕ} 0 1 = cc in absurd (omega arith)
@@ -34,7 +34,7 @@ taken-by s at (Whole kind body next) h e =
     let b : bodyLength kind ≡ bodyLength (getD s at 0) = ap bodyLength (w .kind) in
     record { own = omega (arith, w .body, w .next, b); forward = omega (arith, w .body, w .next); inside = w .inside }
 
-stays-by : (f : Found) (at : ℕ) → goesOn f ≡ false → nextPlace f at ≡ at
+pub stays-by : (f : Found) (at : ℕ) → goesOn f ≡ false → nextPlace f at ≡ at
 unfolding goesOn nextPlace
 stays-by End at e = refl
 stays-by (Unknown b) at e = refl
@@ -161,6 +161,11 @@ unfolding transcript begun
 the-transcript input = steps-write 65537 (take 65536 input) begun (simp length-take (omega arith)) (record { counted = omega arith; inside = omega arith }) refl
 
 -- ---- lines held back come out whole and in order
+
+-- where the buffer is not full, the lines of one record more fit behind those held
+pub not-full : (held : ℕ) → isFull held ≡ false → held + longest < room
+unfolding isFull
+not-full held e = let z : held < 988 = leb-false 988 held e in omega arith
 
 pub late-same : (k : ℕ) (s : List ℕ) (r : Run) (held : List ℕ) → writtenLate k s r held ≡ held ++ written k s r
 unfolding writtenLate written
