@@ -6,7 +6,8 @@ pub mod Came
 pub mod Holding
 pub mod Closing
 pub mod Keeping
-pub mod Locked
 pub mod Numbers
+pub mod Telling
+pub mod Locked
 pub mod Sending
 pub mod Demands

@@ -5,90 +5,84 @@ use native.Mathlib.Omega.{arith}
 use mathlib.Core.Path.{_≡_, refl, sym, ap, _∙_, subst}
 use mathlib.Core.Bool.{Bool, true, false, _&&_, _||_, not, false≢true}
 use mathlib.Core.List.{List, [], _∷_}
-use lib.Dec.{eqb, leb}
-use lib.ListN.{length, getD, length-replicate}
-use borrow.Author.Tests.{eqb-true, eq-eqb, leb-true, le-leb}
+use lib.Dec.{eqb, leb, ltb}
+use lib.ListN.{length, getD, replicate, length-replicate}
+use borrow.Author.Tests.{eqb-true, eqb-false, eq-eqb, leb-true, le-leb}
 use Rattle.lists.specs.Lists.{pick, All}
 use Rattle.lists.proofs.Tests.{and-true, and-yes}
 use Rattle.remainders.specs.Messages.{bits, whole}
 use Rattle.remainders.specs.Division.{remainderOf}
-use Rattle.fields.specs.Building.{anAddress, replyRanged, allCallReplyRanged, anAllCallReply, replying, allCallReplying}
+use Rattle.fields.specs.Building.{anAddress, aReply, replyRanged, allCallReplyRanged, anAllCallReply, replying, allCallReplying}
 use Rattle.fields.specs.Formats.{longFormat, surveillance, lengthOf, listed}
 use Rattle.fields.specs.Answers.{refusal}
-use Rattle.fields.specs.Fields.{valueAt, atRR, headOf, midOf}
+use Rattle.fields.specs.Fields.{headOf, midOf}
 use Rattle.fields.specs.Reading.{formatOf, readAs, selectiveRead, allCallRead, readUp}
 use Rattle.fields.specs.Shared.{ofSI, siNumber, codeFor, shortReply, drawn}
-use Rattle.fields.specs.declared.answers.Draws.{Draws}
-use Rattle.fields.specs.declared.answers.Draws.the-variants.{Format, Nothing}
+use Rattle.fields.specs.declared.answers.Draws.the-variants.{Format}
+use Rattle.fields.specs.declared.answers.Interrogator.{Interrogator}
 use Rattle.fields.specs.declared.answers.Interrogator.the-variants.{II, SI, Nobody}
 use Rattle.transponder.specs.declared.state.Holder.{Holder}
 use Rattle.transponder.specs.declared.state.Holder.the-variants as holder
 use Rattle.transponder.specs.declared.state.Messages.{Messages}
+use Rattle.transponder.specs.declared.state.Sent.{Sent}
 use Rattle.transponder.specs.declared.state.Took.{Took}
 use Rattle.transponder.specs.declared.state.Transponder.{Transponder}
 use Rattle.transponder.specs.State.{waiting, waits}
 use Rattle.transponder.specs.Lapse.{lapse}
-use Rattle.transponder.specs.Replies.{sentBytes, sending, drOf, hidesUM, umOf, bds2, mbOf, respond, answersCode, answers, answerAllCall}
+use Rattle.transponder.specs.Replies.{silence, sentBytes, sending, drOf, hidesUM, umOf, bds2, mbOf, respond, drawsBelow, answersFree, answersCode, answers, answerAllCall}
 use Rattle.transponder.specs.Calls as calls
-use Rattle.transponder.specs.Calls.{makeRanged, steps, interrogated, heardSelective, heardAllCall, heard, taking}
+use Rattle.transponder.specs.Calls.{makeRanged, interrogated, unmoved, laidOver, heardSelective, heardAllCall, heard, taking}
 use Rattle.transponder.specs.History.{Aircraft, made, Call, take, after}
 use Rattle.transponder.specs.Kept.{HolderIn, Of56Bits, Kept}
-use Rattle.transponder.specs.Demands.{sentBy, valueFor, replyFrom, Sends}
-use Rattle.transponder.proofs.Came.{taken-is}
-use Rattle.transponder.proofs.Keeping.{kept-lapse, kept-steps, always-kept}
+use Rattle.transponder.specs.Story.{Told, heldBy, showsDR, showsUM, showsMB}
+use Rattle.transponder.specs.Seen.{ACode, isFor, numberOn, told}
+use Rattle.transponder.specs.Replied.{formatDrawn, valueFor, replyOn, isAllCall, answersAt, answersTo, callOn, sentOn, sentTo}
+use Rattle.transponder.specs.Demands.{sentBy}
+use Rattle.transponder.proofs.Came.{of-pick, taken-is, refusal-sends-nothing}
+use Rattle.transponder.proofs.Keeping.{kept-lapse, always-kept}
+use Rattle.transponder.proofs.Telling.{some-wait, Agree, agree-always, numbers}
+use Rattle.transponder.proofs.Locked.{locked-exactly}
 
--- ---- the format that is drawn
-abbrev number-of : Draws → ℕ
-number-of (Format df) = df
-number-of Nothing = 0
-
-abbrev is-format : Draws → Bool
-is-format (Format df) = true
-is-format Nothing = false
-
+-- ---- the format that is drawn: it is listed, and long for RR 16
 pub record Drawn (rr df : ℕ) : Type 0 where
   pub listed : surveillance df ≡ true
   pub long : rr ≡ 16 → longFormat df ≡ true
 
-pub drawn-is : (uf rr df : ℕ) → drawn uf rr ≡ Format df → Drawn rr df
-unfolding drawn
-drawn-is uf rr df e = go (surveillance uf && leb rr 31) (leb 16 rr) refl (eqb uf 4 || eqb uf 20) e
+drawn-is : (uf rr : ℕ) → Drawn rr (formatDrawn uf rr)
+drawn-is uf rr = go (leb 16 rr) refl (eqb uf 4 || eqb uf 20)
   where
-    go : (s l : Bool) → leb 16 rr ≡ l → (ac : Bool) → pick s (pick l (Format (pick ac 4 5 + 16)) (Format (pick ac 4 5))) Nothing ≡ Format df → Drawn rr df
-    go true true h true e = subst (Drawn rr) (ap number-of e) (record { listed = refl; long = λ _. refl })
-    go true true h false e = subst (Drawn rr) (ap number-of e) (record { listed = refl; long = λ _. refl })
-    go true false h true e = subst (Drawn rr) (ap number-of e) (record { listed = refl; long = λ q. absurd (false≢true (sym h ∙ ap (leb 16) q)) })
-    go true false h false e = subst (Drawn rr) (ap number-of e) (record { listed = refl; long = λ q. absurd (false≢true (sym h ∙ ap (leb 16) q)) })
-    go false l h ac e = absurd (false≢true (ap is-format e))
+    go : (l : Bool) → leb 16 rr ≡ l → (ac : Bool) → Drawn rr (pick l (pick ac 4 5 + 16) (pick ac 4 5))
+    go true h true = record { listed = refl; long = λ _. refl }
+    go true h false = record { listed = refl; long = λ _. refl }
+    go false h true = record { listed = refl; long = λ q. absurd (false≢true (sym h ∙ ap (leb 16) q)) }
+    go false h false = record { listed = refl; long = λ q. absurd (false≢true (sym h ∙ ap (leb 16) q)) }
 
--- a selective interrogation that is read has a listed UF and an RR of 5 bits, so it always draws a format
-read-in : (f : List ℕ) (uf pc rr di sd ma r : ℕ) → readUp f .values ≡ uf ∷ pc ∷ rr ∷ di ∷ sd ∷ ma ∷ r ∷ [] → (surveillance uf ≡ true) × (rr ≤ 31)
-unfolding readAs selectiveRead allCallRead
-read-in f uf pc rr di sd ma r = go (whole (length f)) (listed (formatOf f) (length f)) refl (eqb (formatOf f) 11) refl
-  where
-    go : (x y : Bool) → listed (formatOf f) (length f) ≡ y → (z : Bool) → eqb (formatOf f) 11 ≡ z
-        → pick x (pick y (pick z (allCallRead (headOf f) (remainderOf (bits f))) (selectiveRead (headOf f) (midOf f) (remainderOf (bits f)))) (refusal 14)) (refusal 1) .values ≡ uf ∷ pc ∷ rr ∷ di ∷ sd ∷ ma ∷ r ∷ []
-        → (surveillance uf ≡ true) × (rr ≤ 31)
-    go false y p z q e = let n : _≡_ {A = ℕ} 0 7 = ap length e in absurd (omega arith)
-    go true false p z q e = let n : _≡_ {A = ℕ} 0 7 = ap length e in absurd (omega arith)
-    go true true p true q e = let n : _≡_ {A = ℕ} 5 7 = ap length e in absurd (omega arith)
-    go true true p false q e =
-        let u : formatOf f ≡ uf = ap (λ (v : List ℕ). getD v 0 0) e in
-        let w : valueAt atRR (headOf f) ≡ rr = ap (λ (v : List ℕ). getD v 2 0) e in
-        let l = and-true (eqb (length f) (lengthOf (formatOf f))) (eqb (formatOf f) 11 || surveillance (formatOf f)) p .1 in
-        let k : surveillance (formatOf f) ≡ true = rw q at l in
-        (ap surveillance (sym u) ∙ k, omega (arith, w))
-
--- "UF 4/20 draw AC, UF 5/21 draw ID; RR 16 and above draws the long form"
-pub always-drawn : (f : List ℕ) (uf pc rr di sd ma r : ℕ) → readUp f .values ≡ uf ∷ pc ∷ rr ∷ di ∷ sd ∷ ma ∷ r ∷ [] → drawn uf rr ≡ Format (pick (leb 16 rr) (shortReply uf + 16) (shortReply uf))
+drawn-format : (uf rr : ℕ) → surveillance uf ≡ true → rr ≤ 31 → drawn uf rr ≡ Format (formatDrawn uf rr)
 unfolding drawn
-always-drawn f uf pc rr di sd ma r e =
-    let i = read-in f uf pc rr di sd ma r e in
-    rw (i .0, le-leb rr 31 (i .1)) (go (leb 16 rr))
+drawn-format uf rr p q = rw (p, le-leb rr 31 q) (go (leb 16 rr))
   where
     go : (b : Bool) → pick b (Format (shortReply uf + 16)) (Format (shortReply uf)) ≡ Format (pick b (shortReply uf + 16) (shortReply uf))
     go true = refl
     go false = refl
+
+-- a selective interrogation that is read has a listed UF and an RR of 5 bits, so it always draws a format
+read-in : (f : List ℕ) → let vs = readUp f .values in eqb (length vs) 7 ≡ true → (surveillance (getD vs 0 0) ≡ true) × (getD vs 2 0 ≤ 31)
+unfolding readAs selectiveRead allCallRead
+read-in f = go (whole (length f)) (listed (formatOf f) (length f)) refl (eqb (formatOf f) 11) refl
+  where
+    go : (x y : Bool) → listed (formatOf f) (length f) ≡ y → (z : Bool) → eqb (formatOf f) 11 ≡ z
+        → let vs = pick x (pick y (pick z (allCallRead (headOf f) (remainderOf (bits f))) (selectiveRead (headOf f) (midOf f) (remainderOf (bits f)))) (refusal 14)) (refusal 1) .values in
+        eqb (length vs) 7 ≡ true → (surveillance (getD vs 0 0) ≡ true) × (getD vs 2 0 ≤ 31)
+    go false y p z q e = absurd (false≢true e)
+    go true false p z q e = absurd (false≢true e)
+    go true true p true q e = absurd (false≢true e)
+    go true true p false q e =
+        let l = and-true (eqb (length f) (lengthOf (formatOf f))) (eqb (formatOf f) 11 || surveillance (formatOf f)) p .1 in
+        (rw q at l, omega arith)
+
+-- "UF 4/20 draw AC, UF 5/21 draw ID; RR 16 and above draws the long form"
+pub always-drawn : (f : List ℕ) → let vs = readUp f .values in eqb (length vs) 7 ≡ true → drawn (getD vs 0 0) (getD vs 2 0) ≡ Format (formatDrawn (getD vs 0 0) (getD vs 2 0))
+always-drawn f e = let i = read-in f e in drawn-format (getD (readUp f .values) 0 0) (getD (readUp f .values) 2 0) (i .0) (i .1)
 
 -- ---- every field of a reply is in its range
 first-in : (v : List ℕ) → All Of56Bits v → getD v 0 0 ≤ 0xFFFFFFFFFFFFFF
@@ -147,9 +141,22 @@ value-in a uf r = go (eqb uf 4 || eqb uf 20)
     go true = r .ac-in
     go false = r .id-in
 
+-- ---- what a reply shows, by the transponder and by the story
+dr-is : (w : List ℕ) → pick (not (eqb (length w) 0)) 1 0 ≡ showsDR w
+dr-is [] = refl
+dr-is (m ∷ ms) = rw (some-wait m ms)
+
+um-is : (di sd : ℕ) (h : Holder) → umOf di sd h ≡ showsUM di sd h
+um-is di sd holder.Nobody = refl
+um-is di sd (holder.Held ii s) = refl
+
+mb-is : (rr di sd : ℕ) (w : List ℕ) → pick (eqb rr 16 && eqb (bds2 di sd) 0) (getD w 0 0) 0 ≡ showsMB rr di sd w
+mb-is rr di sd [] = of-pick (λ (n : ℕ). n ≡ 0) (eqb rr 16 && eqb (bds2 di sd) 0) 0 0 refl refl
+mb-is rr di sd (m ∷ ms) = refl
+
 -- ---- a selective interrogation
-module _ (a : Aircraft) (u : Transponder) (k : Kept a u) (uf rr di sd df : ℕ) (e : drawn uf rr ≡ Format df) where
-  reply-ranged : replyRanged df (a .fs) (drOf (u .messages)) (umOf di sd (u .holder)) (valueFor uf a) (mbOf rr di sd (u .messages)) (a .address) ≡ true
+module _ (a : Aircraft) (u : Transponder) (k : Kept a u) (s : Told) (g : Agree u s) (uf rr di sd : ℕ) where
+  reply-ranged : replyRanged (formatDrawn uf rr) (a .fs) (drOf (u .messages)) (umOf di sd (u .holder)) (valueFor uf a) (mbOf rr di sd (u .messages)) (a .address) ≡ true
   unfolding replyRanged
   reply-ranged =
       let r = ranges a (k .ranged) in
@@ -161,53 +168,135 @@ module _ (a : Aircraft) (u : Transponder) (k : Kept a u) (uf rr di sd df : ℕ) 
       (le-leb (umOf di sd (u .holder)) 63 (um-in di sd (u .holder) (k .holder))))
       (value-in a uf r))
       (r .address-in))
-      (mb-in df rr di sd (u .messages) (drawn-is uf rr df e) (k .messages))
+      (mb-in (formatDrawn uf rr) rr di sd (u .messages) (drawn-is uf rr) (k .messages))
 
-  responds : respond uf rr di sd u ≡ sentBytes (replyFrom a u df uf rr di sd)
+  responds : drawn uf rr ≡ Format (formatDrawn uf rr)
+      → respond uf rr di sd u ≡ sentBytes (aReply (formatDrawn uf rr) (a .fs) (drOf (u .messages)) (umOf di sd (u .holder)) (valueFor uf a) (mbOf rr di sd (u .messages)) (a .address))
   unfolding respond replying sending
-  responds =
-      rw (e, k .same .fs, k .same .ac, k .same .id, k .same .address, drawn-is uf rr df e .listed, length-replicate {A = ℕ} (lengthOf df) 0, eq-eqb (lengthOf df) (lengthOf df) refl, reply-ranged)
+  responds e =
+      let df = formatDrawn uf rr in
+      rw (e, k .same .fs, k .same .ac, k .same .id, k .same .address, drawn-is uf rr .listed, length-replicate {A = ℕ} (lengthOf df) 0, eq-eqb (lengthOf df) (lengthOf df) refl, reply-ranged)
+
+  told-response : drawn uf rr ≡ Format (formatDrawn uf rr) → respond uf rr di sd u ≡ sentBytes (replyOn a s uf rr di sd)
+  told-response e =
+      let dr : drOf (u .messages) ≡ showsDR (s .messages) = dr-is (waiting (u .messages)) ∙ ap showsDR (g .messages) in
+      let um : umOf di sd (u .holder) ≡ showsUM di sd (heldBy s) = um-is di sd (u .holder) ∙ ap (showsUM di sd) (g .holder) in
+      let mb : mbOf rr di sd (u .messages) ≡ showsMB rr di sd (s .messages) = mb-is rr di sd (waiting (u .messages)) ∙ ap (showsMB rr di sd) (g .messages) in
+      responds e ∙ ap3 dr um mb
+    where
+      ap3 : {x y z p q r : ℕ} → x ≡ p → y ≡ q → z ≡ r
+          → sentBytes (aReply (formatDrawn uf rr) (a .fs) x y (valueFor uf a) z (a .address)) ≡ sentBytes (aReply (formatDrawn uf rr) (a .fs) p q (valueFor uf a) r (a .address))
+      ap3 e f h = rw (e, f, h)
 
 -- ---- an all-call
-code-in : (pr ic cl draw : ℕ) (t : Transponder) → answers pr ic cl draw t ≡ true → (leb cl 7 ≡ true) × (leb ic 15 ≡ true)
-unfolding answers codeFor
-code-in pr ic cl draw t = go (leb ic 15) refl (eqb cl 0) refl (ofSI cl) refl (not (eqb (siNumber cl ic) 0))
+-- the code of a CL and an IC: nobody's, or one of the 79 with CL and IC in their ranges
+abbrev Coded : ℕ → ℕ → Interrogator → Type 0
+Coded cl ic Nobody = Unit {0}
+Coded cl ic (II n) = ACode (II n) × ((leb cl 7 ≡ true) × (leb ic 15 ≡ true))
+Coded cl ic (SI n) = ACode (SI n) × ((leb cl 7 ≡ true) × (leb ic 15 ≡ true))
+
+coded : (cl ic : ℕ) → Coded cl ic (codeFor cl ic)
+unfolding codeFor
+coded cl ic = go (leb ic 15) refl (eqb cl 0) refl (ofSI cl) refl (eqb (siNumber cl ic) 0) refl
   where
-    go : (x : Bool) → leb ic 15 ≡ x → (y : Bool) → eqb cl 0 ≡ y → (z : Bool) → ofSI cl ≡ z → (w : Bool)
-        → answersCode pr draw t (pick x (pick y (II ic) (pick (z && w) (SI (siNumber cl ic)) Nobody)) Nobody) ≡ true → (leb cl 7 ≡ true) × (leb ic 15 ≡ true)
-    go false p y q z s w h = absurd (false≢true h)
-    go true p true q z s w h = (ap (λ (n : ℕ). leb n 7) (eqb-true cl 0 q), p)
-    go true p false q true s true h = let l = leb-true cl 4 (and-true (leb 1 cl) (leb cl 4) s .1) in (le-leb cl 7 (omega (arith, l)), p)
-    go true p false q true s false h = absurd (false≢true h)
-    go true p false q false s w h = absurd (false≢true h)
+    go : (x : Bool) → leb ic 15 ≡ x → (y : Bool) → eqb cl 0 ≡ y → (z : Bool) → ofSI cl ≡ z → (w : Bool) → eqb (siNumber cl ic) 0 ≡ w
+        → Coded cl ic (pick x (pick y (II ic) (pick (z && not w) (SI (siNumber cl ic)) Nobody)) Nobody)
+    go false p y q z s w v = tt
+    go true p true q z s w v = (leb-true ic 15 p, (ap (λ (n : ℕ). leb n 7) (eqb-true cl 0 q), p))
+    go true p false q true s false v =
+        let l = leb-true cl 4 (and-true (leb 1 cl) (leb cl 4) s .1) in
+        let n = eqb-false (siNumber cl ic) 0 v in
+        let c = leb-true ic 15 p in
+        ((omega arith, omega arith), (le-leb cl 7 (omega arith), p))
+    go true p false q true s true v = tt
+    go true p false q false s w v = tt
 
-module _ (a : Aircraft) (u : Transponder) (k : Kept a u) (pr ic cl draw : ℕ) (e : answers pr ic cl draw u ≡ true) where
-  all-call-ranged : allCallReplyRanged (a .ca) (a .address) cl ic ≡ true
-  unfolding allCallReplyRanged
-  all-call-ranged =
+module _ (a : Aircraft) (m : made a .number ≡ 0) (cs : List Call) (time draw pr ic cl : ℕ) (p : told a cs .time ≤ time) where
+  abbrev called : Transponder
+  called = lapse time (after a cs)
+
+  built : (leb cl 7 ≡ true) × (leb ic 15 ≡ true) → sending (allCallReplying (called .ca) (called .address) cl ic (replicate 7 0)) ≡ sentBytes (anAllCallReply (a .ca) (a .address) cl ic)
+  unfolding allCallReplying allCallReplyRanged sending
+  built c =
+      let k = kept-lapse a time (after a cs) (always-kept a m cs) in
       let r = ranges a (k .ranged) in
-      let c = code-in pr ic cl draw u e in
-      and-yes _ _ (and-yes _ _ (and-yes _ _ (r .ca-in) (r .address-in)) (c .0)) (c .1)
+      rw (k .same .ca, k .same .address, r .ca-in, r .address-in, c .0, c .1)
 
-  answers-it : answerAllCall pr ic cl draw u ≡ sentBytes (anAllCallReply (a .ca) (a .address) cl ic)
-  unfolding answerAllCall allCallReplying sending
-  answers-it = rw (e, k .same .ca, k .same .address, all-call-ranged)
+  -- the lock is told by the last command
+  free-is : (c : Interrogator) → ACode c → answersFree pr draw c called ≡ answersAt a cs time draw pr c
+  free-is c ok = ap (λ (b : Bool). (leb 8 pr || not b) && ltb draw (drawsBelow pr)) (locked-exactly a c ok m cs time p)
+
+  answered : (c : Interrogator) → Coded cl ic c
+      → pick (answersCode pr draw called c) (sending (allCallReplying (called .ca) (called .address) cl ic (replicate 7 0))) silence ≡ pick (answersTo a cs time draw pr c) (sentBytes (anAllCallReply (a .ca) (a .address) cl ic)) silence
+  answered Nobody k = refl
+  answered (II n) k = rw (free-is (II n) (k .0), built (k .1))
+  answered (SI n) k = rw (free-is (SI n) (k .0), built (k .1))
+
+  told-call : answerAllCall pr ic cl draw called ≡ callOn a cs time draw pr ic cl
+  unfolding answerAllCall answers
+  told-call = answered (codeFor cl ic) (coded cl ic)
 
 -- ---- of every history
-pub always-sent : (a : Aircraft) → made a .number ≡ 0 → (cs : List Call) (time draw : ℕ) (f : List ℕ) → taking (after a cs) time draw f .number ≡ 0 → Sends a cs time draw f
-unfolding after heardSelective interrogated heardAllCall
-always-sent a m cs time draw f n =
-    record {
-      selective = λ uf pc rr di sd ma r df v o e.
-          let t = lapse time (after a cs) in
-          let same : t .address ≡ a .address = kept-lapse a time (after a cs) (always-kept a m cs) .same .address in
-          let h : taking (after a cs) time draw f ≡ calls.done (interrogated uf pc rr di sd t) =
-          taken-is (after a cs) time draw f n ∙ ap (λ (x : List ℕ). calls.done (heard draw t x)) v ∙ (rw (same, o)) in
-          let g : after a (take time draw f ∷ cs) ≡ steps pc di sd t = ap (λ (x : Took). x .transponder) h in
-          rw (h, g) (responds a (steps pc di sd t) (kept-steps a pc di sd t (kept-lapse a time (after a cs) (always-kept a m cs))) uf rr di sd df e);
-      all-call = λ pr ic cl r v o e.
-          let t = lapse time (after a cs) in
-          let h : sentBy (taking (after a cs) time draw f) ≡ answerAllCall pr ic cl draw t =
-          ap sentBy (taken-is (after a cs) time draw f n ∙ ap (λ (x : List ℕ). calls.done (heard draw t x)) v) ∙ (rw o) in
-          h ∙ answers-it a t (kept-lapse a time (after a cs) (always-kept a m cs)) pr ic cl draw e;
-    }
+module _ (a : Aircraft) (m : made a .number ≡ 0) (cs : List Call) (time draw : ℕ) (f : List ℕ) where
+  abbrev fields : List ℕ
+  fields = readUp f .values
+
+  abbrev lapsed : Transponder
+  lapsed = lapse time (after a cs)
+
+  abbrev selectively : Sent
+  selectively = sentBytes (replyOn a (told a (take time draw f ∷ cs)) (getD fields 0 0) (getD fields 2 0) (getD fields 3 0) (getD fields 4 0))
+
+  abbrev generally : Sent
+  generally = callOn a cs time draw (getD fields 1 0) (getD fields 2 0) (getD fields 3 0)
+
+  -- a frame that is not refused
+  module _ (n : taking (after a cs) time draw f .number ≡ 0) where
+    abbrev Left : Transponder → Type 0
+    Left u = Kept a u × Agree u (told a (take time draw f ∷ cs))
+
+    left : Left (heard draw lapsed fields .transponder)
+    unfolding after
+    left =
+        subst Left (ap (λ (x : Took). x .transponder) (taken-is (after a cs) time draw f n .1))
+        (always-kept a m (take time draw f ∷ cs), agree-always a m (take time draw f ∷ cs))
+
+    by-fields : heard draw lapsed fields .sent ≡ pick (isFor (lapsed .address) fields) selectively (pick (isAllCall fields) generally silence)
+    unfolding heardSelective interrogated heardAllCall
+    by-fields = go (eqb (length fields) 7) refl (laidOver (lapsed .address) (getD fields 6 0)) (eqb (length fields) 5) refl (laidOver 0xFFFFFF (getD fields 4 0)) left
+      where
+        when : told a cs .time ≤ time
+        when = rw (agree-always a m cs .clock) at (taken-is (after a cs) time draw f n .0)
+
+        call : answerAllCall (getD fields 1 0) (getD fields 2 0) (getD fields 3 0) draw lapsed ≡ generally
+        call = told-call a m cs time draw (getD fields 1 0) (getD fields 2 0) (getD fields 3 0) when
+
+        go : (x : Bool) → eqb (length fields) 7 ≡ x → (y z : Bool) → eqb (length fields) 5 ≡ z → (w : Bool)
+            → let went = pick x (pick y (interrogated (getD fields 0 0) (getD fields 1 0) (getD fields 2 0) (getD fields 3 0) (getD fields 4 0) lapsed) (unmoved lapsed)) (pick z (pick w (record { transponder = lapsed; sent = answerAllCall (getD fields 1 0) (getD fields 2 0) (getD fields 3 0) draw lapsed }) (unmoved lapsed)) (unmoved lapsed)) in
+            Left (went .transponder) → went .sent ≡ pick (x && y) selectively (pick (z && w) generally silence)
+        go true e true z q w l = told-response a _ (l .0) _ (l .1) (getD fields 0 0) (getD fields 2 0) (getD fields 3 0) (getD fields 4 0) (always-drawn f e)
+        go true e false true q w l =
+            let x = eqb-true (length fields) 7 e in
+            let y = eqb-true (length fields) 5 q in
+            absurd (omega arith)
+        go true e false false q w l = refl
+        go false e y true q true l = call
+        go false e y true q false l = refl
+        go false e y false q w l = refl
+
+    heard-told : sentBy (taking (after a cs) time draw f) ≡ sentOn a cs time draw f fields
+    heard-told =
+        ap sentBy (taken-is (after a cs) time draw f n .1)
+        ∙ by-fields
+        ∙ ap (λ (x : ℕ). pick (isFor x fields) selectively (pick (isAllCall fields) generally silence)) (kept-lapse a time (after a cs) (always-kept a m cs) .same .address)
+
+  pub always-sent : sentBy (taking (after a cs) time draw f) ≡ sentTo a cs time draw f
+  unfolding sentTo
+  always-sent = go (eqb (numberOn (told a cs) (take time draw f)) 0) refl
+    where
+      number : taking (after a cs) time draw f .number ≡ numberOn (told a cs) (take time draw f)
+      number = numbers a m cs (take time draw f)
+
+      go : (b : Bool) → eqb (numberOn (told a cs) (take time draw f)) 0 ≡ b → sentBy (taking (after a cs) time draw f) ≡ pick b (sentOn a cs time draw f fields) silence
+      go true e = heard-told (number ∙ eqb-true (numberOn (told a cs) (take time draw f)) 0 e)
+      go false e = refusal-sends-nothing (after a cs) time draw f (λ q. eqb-false (numberOn (told a cs) (take time draw f)) 0 e (sym number ∙ q))
