@@ -126,7 +126,8 @@ refusal-sends-nothing t time draw f = go (whole (length f)) (leb draw 15) (leb (
     go false b d n = refl
 
 -- ---- a frame that is not refused comes in time, and is heard
-pub taken-is : (t : Transponder) (time draw : ℕ) (f : List ℕ) → taking t time draw f .number ≡ 0 → (t .time ≤ time) × (taking t time draw f ≡ calls.done (heard draw (lapse time t) (readUp f .values)))
+pub taken-is : (t : Transponder) (time draw : ℕ) (f : List ℕ) → taking t time draw f .number ≡ 0
+    → (t .time ≤ time) × (taking t time draw f ≡ calls.done (heard draw (lapse time t) (readUp f .values)))
 unfolding taking
 taken-is t time draw f = go (whole (length f)) (leb draw 15) (leb (t .time) time) refl _
   where

@@ -190,10 +190,12 @@ module _ (a : Aircraft) (c : Interrogator) (ok : ACode c) where
   unfolding after lastCommand
   agree-always m [] = λ now q. ap (λ (x : Lock). lockAfter now x) (newborn-lock a m c)
   agree-always m (x ∷ cs) =
-      rw (numbers a m cs x) at (agree-next (after a cs) (always-kept a m cs) (lastCommand a c cs) x (answer (after a cs) x) (came (after a cs) x) (agree-always m cs))
+      let g = agree-next (after a cs) (always-kept a m cs) (lastCommand a c cs) x (answer (after a cs) x) (came (after a cs) x) (agree-always m cs) in
+      rw (numbers a m cs x) at g
 
   -- in every history, at every time from its last one on
-  pub locked-exactly : made a .number ≡ 0 → (cs : List Call) (now : ℕ) → told a cs .time ≤ now → lockedTo c (lapse now (after a cs) .timers) ≡ lockedSince now (lastCommand a c cs)
+  pub locked-exactly : made a .number ≡ 0 → (cs : List Call) (now : ℕ) → told a cs .time ≤ now
+      → lockedTo c (lapse now (after a cs) .timers) ≡ lockedSince now (lastCommand a c cs)
   unfolding lockedTo lapse timerAfter
   locked-exactly m cs now p =
       let q = rw (← always-told a m cs .clock) at p in

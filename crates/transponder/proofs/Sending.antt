@@ -27,9 +27,11 @@ use Rattle.transponder.specs.declared.state.Messages.{Messages}
 use Rattle.transponder.specs.declared.state.Sent.{Sent}
 use Rattle.transponder.specs.declared.state.Took.{Took}
 use Rattle.transponder.specs.declared.state.Transponder.{Transponder}
+use Rattle.transponder.specs.declared.state.Went.{Went}
 use Rattle.transponder.specs.State.{waiting, waits}
 use Rattle.transponder.specs.Lapse.{lapse}
-use Rattle.transponder.specs.Replies.{silence, sentBytes, sending, drOf, hidesUM, umOf, bds2, mbOf, respond, drawsBelow, answersFree, answersCode, answers, answerAllCall}
+use Rattle.transponder.specs.Replies.{silence, sentBytes, sending, drOf, hidesUM, umOf, bds2, mbOf, respond}
+use Rattle.transponder.specs.Replies.{drawsBelow, answersFree, answersCode, answers, answerAllCall}
 use Rattle.transponder.specs.Calls as calls
 use Rattle.transponder.specs.Calls.{makeRanged, interrogated, unmoved, laidOver, heardSelective, heardAllCall, heard, taking}
 use Rattle.transponder.specs.History.{Aircraft, made, Call, take, after}
@@ -81,7 +83,8 @@ read-in f = go (whole (length f)) (listed (formatOf f) (length f)) refl (eqb (fo
         (rw q at l, omega arith)
 
 -- "UF 4/20 draw AC, UF 5/21 draw ID; RR 16 and above draws the long form"
-pub always-drawn : (f : List ℕ) → let vs = readUp f .values in eqb (length vs) 7 ≡ true → drawn (getD vs 0 0) (getD vs 2 0) ≡ Format (formatDrawn (getD vs 0 0) (getD vs 2 0))
+pub always-drawn : (f : List ℕ) → let vs = readUp f .values in
+    eqb (length vs) 7 ≡ true → drawn (getD vs 0 0) (getD vs 2 0) ≡ Format (formatDrawn (getD vs 0 0) (getD vs 2 0))
 always-drawn f e = let i = read-in f e in drawn-format (getD (readUp f .values) 0 0) (getD (readUp f .values) 2 0) (i .0) (i .1)
 
 -- ---- every field of a reply is in its range
@@ -156,7 +159,10 @@ mb-is rr di sd (m ∷ ms) = refl
 
 -- ---- a selective interrogation
 module _ (a : Aircraft) (u : Transponder) (k : Kept a u) (s : Told) (g : Agree u s) (uf rr di sd : ℕ) where
-  reply-ranged : replyRanged (formatDrawn uf rr) (a .fs) (drOf (u .messages)) (umOf di sd (u .holder)) (valueFor uf a) (mbOf rr di sd (u .messages)) (a .address) ≡ true
+  abbrev df : ℕ
+  df = formatDrawn uf rr
+
+  reply-ranged : replyRanged df (a .fs) (drOf (u .messages)) (umOf di sd (u .holder)) (valueFor uf a) (mbOf rr di sd (u .messages)) (a .address) ≡ true
   unfolding replyRanged
   reply-ranged =
       let r = ranges a (k .ranged) in
@@ -168,25 +174,27 @@ module _ (a : Aircraft) (u : Transponder) (k : Kept a u) (s : Told) (g : Agree u
       (le-leb (umOf di sd (u .holder)) 63 (um-in di sd (u .holder) (k .holder))))
       (value-in a uf r))
       (r .address-in))
-      (mb-in (formatDrawn uf rr) rr di sd (u .messages) (drawn-is uf rr) (k .messages))
+      (mb-in df rr di sd (u .messages) (drawn-is uf rr) (k .messages))
 
-  responds : drawn uf rr ≡ Format (formatDrawn uf rr)
-      → respond uf rr di sd u ≡ sentBytes (aReply (formatDrawn uf rr) (a .fs) (drOf (u .messages)) (umOf di sd (u .holder)) (valueFor uf a) (mbOf rr di sd (u .messages)) (a .address))
+  -- the reply with DR, UM and MB
+  abbrev replying-with : ℕ → ℕ → ℕ → Sent
+  replying-with dr um mb = sentBytes (aReply df (a .fs) dr um (valueFor uf a) mb (a .address))
+
+  responds : drawn uf rr ≡ Format df → respond uf rr di sd u ≡ replying-with (drOf (u .messages)) (umOf di sd (u .holder)) (mbOf rr di sd (u .messages))
   unfolding respond replying sending
   responds e =
-      let df = formatDrawn uf rr in
-      rw (e, k .same .fs, k .same .ac, k .same .id, k .same .address, drawn-is uf rr .listed, length-replicate {A = ℕ} (lengthOf df) 0, eq-eqb (lengthOf df) (lengthOf df) refl, reply-ranged)
+      let long = eq-eqb (lengthOf df) (lengthOf df) refl in
+      rw (e, k .same .fs, k .same .ac, k .same .id, k .same .address, drawn-is uf rr .listed, length-replicate {A = ℕ} (lengthOf df) 0, long, reply-ranged)
 
-  told-response : drawn uf rr ≡ Format (formatDrawn uf rr) → respond uf rr di sd u ≡ sentBytes (replyOn a s uf rr di sd)
+  told-response : drawn uf rr ≡ Format df → respond uf rr di sd u ≡ sentBytes (replyOn a s uf rr di sd)
   told-response e =
       let dr : drOf (u .messages) ≡ showsDR (s .messages) = dr-is (waiting (u .messages)) ∙ ap showsDR (g .messages) in
       let um : umOf di sd (u .holder) ≡ showsUM di sd (heldBy s) = um-is di sd (u .holder) ∙ ap (showsUM di sd) (g .holder) in
       let mb : mbOf rr di sd (u .messages) ≡ showsMB rr di sd (s .messages) = mb-is rr di sd (waiting (u .messages)) ∙ ap (showsMB rr di sd) (g .messages) in
-      responds e ∙ ap3 dr um mb
-    where
-      ap3 : {x y z p q r : ℕ} → x ≡ p → y ≡ q → z ≡ r
-          → sentBytes (aReply (formatDrawn uf rr) (a .fs) x y (valueFor uf a) z (a .address)) ≡ sentBytes (aReply (formatDrawn uf rr) (a .fs) p q (valueFor uf a) r (a .address))
-      ap3 e f h = rw (e, f, h)
+      responds e
+      ∙ ap (λ (x : ℕ). replying-with x (umOf di sd (u .holder)) (mbOf rr di sd (u .messages))) dr
+      ∙ ap (λ (x : ℕ). replying-with (showsDR (s .messages)) x (mbOf rr di sd (u .messages))) um
+      ∙ ap (λ (x : ℕ). replying-with (showsDR (s .messages)) (showsUM di sd (heldBy s)) x) mb
 
 -- ---- an all-call
 -- the code of a CL and an IC: nobody's, or one of the 79 with CL and IC in their ranges
@@ -215,7 +223,13 @@ module _ (a : Aircraft) (m : made a .number ≡ 0) (cs : List Call) (time draw p
   abbrev called : Transponder
   called = lapse time (after a cs)
 
-  built : (leb cl 7 ≡ true) × (leb ic 15 ≡ true) → sending (allCallReplying (called .ca) (called .address) cl ic (replicate 7 0)) ≡ sentBytes (anAllCallReply (a .ca) (a .address) cl ic)
+  abbrev answering : Sent
+  answering = sending (allCallReplying (called .ca) (called .address) cl ic (replicate 7 0))
+
+  abbrev eleven : Sent
+  eleven = sentBytes (anAllCallReply (a .ca) (a .address) cl ic)
+
+  built : (leb cl 7 ≡ true) × (leb ic 15 ≡ true) → answering ≡ eleven
   unfolding allCallReplying allCallReplyRanged sending
   built c =
       let k = kept-lapse a time (after a cs) (always-kept a m cs) in
@@ -226,8 +240,7 @@ module _ (a : Aircraft) (m : made a .number ≡ 0) (cs : List Call) (time draw p
   free-is : (c : Interrogator) → ACode c → answersFree pr draw c called ≡ answersAt a cs time draw pr c
   free-is c ok = ap (λ (b : Bool). (leb 8 pr || not b) && ltb draw (drawsBelow pr)) (locked-exactly a c ok m cs time p)
 
-  answered : (c : Interrogator) → Coded cl ic c
-      → pick (answersCode pr draw called c) (sending (allCallReplying (called .ca) (called .address) cl ic (replicate 7 0))) silence ≡ pick (answersTo a cs time draw pr c) (sentBytes (anAllCallReply (a .ca) (a .address) cl ic)) silence
+  answered : (c : Interrogator) → Coded cl ic c → pick (answersCode pr draw called c) answering silence ≡ pick (answersTo a cs time draw pr c) eleven silence
   answered Nobody k = refl
   answered (II n) k = rw (free-is (II n) (k .0), built (k .1))
   answered (SI n) k = rw (free-is (SI n) (k .0), built (k .1))
@@ -263,7 +276,8 @@ module _ (a : Aircraft) (m : made a .number ≡ 0) (cs : List Call) (time draw :
 
     by-fields : heard draw lapsed fields .sent ≡ pick (isFor (lapsed .address) fields) selectively (pick (isAllCall fields) generally silence)
     unfolding heardSelective interrogated heardAllCall
-    by-fields = go (eqb (length fields) 7) refl (laidOver (lapsed .address) (getD fields 6 0)) (eqb (length fields) 5) refl (laidOver 0xFFFFFF (getD fields 4 0)) left
+    by-fields =
+        go (eqb (length fields) 7) refl (laidOver (lapsed .address) (getD fields 6 0)) (eqb (length fields) 5) refl (laidOver 0xFFFFFF (getD fields 4 0)) left
       where
         when : told a cs .time ≤ time
         when = rw (agree-always a m cs .clock) at (taken-is (after a cs) time draw f n .0)
@@ -272,7 +286,9 @@ module _ (a : Aircraft) (m : made a .number ≡ 0) (cs : List Call) (time draw :
         call = told-call a m cs time draw (getD fields 1 0) (getD fields 2 0) (getD fields 3 0) when
 
         go : (x : Bool) → eqb (length fields) 7 ≡ x → (y z : Bool) → eqb (length fields) 5 ≡ z → (w : Bool)
-            → let went = pick x (pick y (interrogated (getD fields 0 0) (getD fields 1 0) (getD fields 2 0) (getD fields 3 0) (getD fields 4 0) lapsed) (unmoved lapsed)) (pick z (pick w (record { transponder = lapsed; sent = answerAllCall (getD fields 1 0) (getD fields 2 0) (getD fields 3 0) draw lapsed }) (unmoved lapsed)) (unmoved lapsed)) in
+            → let one = interrogated (getD fields 0 0) (getD fields 1 0) (getD fields 2 0) (getD fields 3 0) (getD fields 4 0) lapsed in
+            let all : Went = record { transponder = lapsed; sent = answerAllCall (getD fields 1 0) (getD fields 2 0) (getD fields 3 0) draw lapsed } in
+            let went = pick x (pick y one (unmoved lapsed)) (pick z (pick w all (unmoved lapsed)) (unmoved lapsed)) in
             Left (went .transponder) → went .sent ≡ pick (x && y) selectively (pick (z && w) generally silence)
         go true e true z q w l = told-response a _ (l .0) _ (l .1) (getD fields 0 0) (getD fields 2 0) (getD fields 3 0) (getD fields 4 0) (always-drawn f e)
         go true e false true q w l =
@@ -286,17 +302,18 @@ module _ (a : Aircraft) (m : made a .number ≡ 0) (cs : List Call) (time draw :
 
     heard-told : sentBy (taking (after a cs) time draw f) ≡ sentOn a cs time draw f fields
     heard-told =
+        let same = kept-lapse a time (after a cs) (always-kept a m cs) .same .address in
         ap sentBy (taken-is (after a cs) time draw f n .1)
         ∙ by-fields
-        ∙ ap (λ (x : ℕ). pick (isFor x fields) selectively (pick (isAllCall fields) generally silence)) (kept-lapse a time (after a cs) (always-kept a m cs) .same .address)
+        ∙ ap (λ (x : ℕ). pick (isFor x fields) selectively (pick (isAllCall fields) generally silence)) same
 
   pub always-sent : sentBy (taking (after a cs) time draw f) ≡ sentTo a cs time draw f
   unfolding sentTo
-  always-sent = go (eqb (numberOn (told a cs) (take time draw f)) 0) refl
+  always-sent = go (eqb (numberOn (told a cs) c) 0) refl
     where
-      number : taking (after a cs) time draw f .number ≡ numberOn (told a cs) (take time draw f)
-      number = numbers a m cs (take time draw f)
+      c : Call
+      c = take time draw f
 
-      go : (b : Bool) → eqb (numberOn (told a cs) (take time draw f)) 0 ≡ b → sentBy (taking (after a cs) time draw f) ≡ pick b (sentOn a cs time draw f fields) silence
-      go true e = heard-told (number ∙ eqb-true (numberOn (told a cs) (take time draw f)) 0 e)
-      go false e = refusal-sends-nothing (after a cs) time draw f (λ q. eqb-false (numberOn (told a cs) (take time draw f)) 0 e (sym number ∙ q))
+      go : (b : Bool) → eqb (numberOn (told a cs) c) 0 ≡ b → sentBy (taking (after a cs) time draw f) ≡ pick b (sentOn a cs time draw f fields) silence
+      go true e = heard-told (numbers a m cs c ∙ eqb-true (numberOn (told a cs) c) 0 e)
+      go false e = refusal-sends-nothing (after a cs) time draw f (λ q. eqb-false (numberOn (told a cs) c) 0 e (sym (numbers a m cs c) ∙ q))

@@ -20,7 +20,8 @@ use Rattle.transponder.specs.CommB.{asksToHold, nobodyElse, reserve, clo
 use Rattle.transponder.specs.Calls.{newborn, making, steps}
 use Rattle.transponder.specs.History.{Aircraft, made, Call, queue, take, Answer, answer, after}
 use Rattle.transponder.specs.Kept.{HolderIn, Kept}
-use Rattle.transponder.specs.Story.{Told, untold, lasts, holdsAt, heldBy, withMessage, moved, saysMBS, mayReserve, reserving, closesOut, closing, framed}
+use Rattle.transponder.specs.Story.{Told, untold, lasts, holdsAt, heldBy}
+use Rattle.transponder.specs.Story.{withMessage, moved, saysMBS, mayReserve, reservedFor, reserving, closesOut, closed, closing, framed}
 use Rattle.transponder.specs.Seen.{toldAfter, numberOn, told}
 use Rattle.transponder.specs.Demands.{Holds}
 use Rattle.transponder.proofs.Came.{stepsOf, Came, refusal, did-queue, did-lapse, did-steps, came}
@@ -81,7 +82,8 @@ queue-agrees v t s g =
 pub some-wait : (m : ℕ) (ms : List ℕ) → not (eqb (length (m ∷ ms)) 0) ≡ true
 some-wait m ms = ap not (ne-eqb (length (m ∷ ms)) 0 (λ q. omega arith))
 
-asks-is : (di sd : ℕ) (w : List ℕ) (h : Holder) → HolderIn h → asksToHold di sd && not (eqb (length w) 0) && nobodyElse (iis sd) h ≡ saysMBS 1 di sd && mayReserve (iis sd) w h
+asks-is : (di sd : ℕ) (w : List ℕ) (h : Holder) → HolderIn h
+    → asksToHold di sd && not (eqb (length w) 0) && nobodyElse (iis sd) h ≡ saysMBS 1 di sd && mayReserve (iis sd) w h
 asks-is di sd [] h k = go (saysMBS 1 di sd) (leb 1 (iis sd))
   where
     go : (x y : Bool) → x && y && false && nobodyElse (iis sd) h ≡ x && false
@@ -109,7 +111,7 @@ reserve-agrees di sd t s k g =
     ∙ ap (λ (h : Holder). saysMBS 1 di sd && mayReserve (iis sd) (s .messages) h) (g .holder) in
     rw e (go (saysMBS 1 di sd && mayReserve (iis sd) (s .messages) (heldBy s)))
   where
-    go : (b : Bool) → Agree (pick b (withHolder (Held (iis sd) (t .time)) t) t) (pick b (record { time = s .time; messages = s .messages; reserved = Held (iis sd) (s .time) }) s)
+    go : (b : Bool) → Agree (pick b (withHolder (Held (iis sd) (t .time)) t) t) (pick b (reservedFor (iis sd) s) s)
     go true = record { clock = g .clock; messages = g .messages; holder = rw (lasts-now (s .time), g .clock) }
     go false = g
 
@@ -124,7 +126,7 @@ closeout-agrees pc di sd t s g =
     let e = closes-is pc di sd (t .holder) ∙ ap (closesOut pc di sd) (g .holder) in
     rw e (go (closesOut pc di sd (heldBy s)))
   where
-    go : (b : Bool) → Agree (pick b (withMessages (messagesAfter (t .messages)) (withHolder Nobody t)) t) (pick b (record { time = s .time; messages = drop 1 (s .messages); reserved = Nobody }) s)
+    go : (b : Bool) → Agree (pick b (withMessages (messagesAfter (t .messages)) (withHolder Nobody t)) t) (pick b (closed s) s)
     go true = record { clock = g .clock; messages = waiting-after (t .messages) ∙ ap (drop 1) (g .messages); holder = refl }
     go false = g
 

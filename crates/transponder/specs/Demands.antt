@@ -31,7 +31,8 @@ pub record Demand1 (a : Aircraft) (cs : List Call) : Type 0 where
 -- demand 2, commands: at every time from the last one on, a code is locked exactly while less than 180 tenths have passed since the last command of it
 -- in the frames that were taken
 pub record Obeys (a : Aircraft) (cs : List Call) : Type 0 where
-  pub locked : (c : Interrogator) → ACode c → (now : ℕ) → told a cs .time ≤ now → lockedTo c (lapse now (after a cs) .timers) ≡ lockedSince now (lastCommand a c cs)
+  pub locked : (c : Interrogator) → ACode c → (now : ℕ) → told a cs .time ≤ now
+      → lockedTo c (lapse now (after a cs) .timers) ≡ lockedSince now (lastCommand a c cs)
 
 -- demand 2, Comm-B: the clock, the messages that wait and, at every time from the last one on, who holds and since when are what the calls alone tell
 pub record Holds (a : Aircraft) (cs : List Call) : Type 0 where
@@ -39,7 +40,8 @@ pub record Holds (a : Aircraft) (cs : List Call) : Type 0 where
   pub messages : waiting (after a cs .messages) ≡ told a cs .messages
   pub holder : (now : ℕ) → told a cs .time ≤ now → lapse now (after a cs) .holder ≡ holdsAt now (told a cs .reserved)
 
--- demand 2, replies: to every frame exactly the bytes are sent that the calls alone tell, or none: a selective interrogation for this aircraft draws a format, and
--- the frame of that format shows DR, UM and MB as they are after the closeout; an all-call draws the DF 11 over its code, or silence; nothing else gets a reply
+-- demand 2, replies: to every frame exactly the bytes are sent that the calls alone tell, or none: a selective interrogation for this aircraft draws a
+-- format, and the frame of that format shows DR, UM and MB as they are after the closeout; an all-call that is answered draws the DF 11 over its code; an
+-- all-call that is not, a frame that is refused or for another aircraft, of another format or of the wrong length get nothing
 pub record Sends (a : Aircraft) (cs : List Call) : Type 0 where
   pub sent : (time draw : ℕ) (f : List ℕ) → sentBy (taking (after a cs) time draw f) ≡ sentTo a cs time draw f

@@ -56,21 +56,26 @@ mayReserve ii [] h = false
 mayReserve ii (m ∷ ms) Nobody = leb 1 ii
 mayReserve ii (m ∷ ms) (Held other since) = eqb other ii
 
+-- the first message is an II's from now on
+abbrev pub reservedFor : ℕ → Told → Told
+reservedFor ii s = record { time = s .time; messages = s .messages; reserved = Held ii (s .time) }
+
 -- "DI 1 with MBS 1 reserves; the holder's repeat restarts it"
 unfoldable pub reserving : ℕ → ℕ → Told → Told
-reserving di sd s =
-    pick (saysMBS 1 di sd && mayReserve (iis sd) (s .messages) (heldBy s))
-    (record { time = s .time; messages = s .messages; reserved = Held (iis sd) (s .time) })
-    s
+reserving di sd s = pick (saysMBS 1 di sd && mayReserve (iis sd) (s .messages) (heldBy s)) (reservedFor (iis sd) s) s
 
 -- "MBS 2 from the holder, or PC 4 while nobody holds it"
 abbrev pub closesOut : ℕ → ℕ → ℕ → Holder → Bool
 closesOut pc di sd Nobody = eqb pc 4
 closesOut pc di sd (Held ii since) = saysMBS 2 di sd && eqb (iis sd) ii
 
--- "removes the first message and the reservation"; who holds is read once
+-- "removes the first message and the reservation"
+abbrev pub closed : Told → Told
+closed s = record { time = s .time; messages = drop 1 (s .messages); reserved = Nobody }
+
+-- "who holds is read once .. for both closeouts"
 unfoldable pub closing : ℕ → ℕ → ℕ → Told → Told
-closing pc di sd s = pick (closesOut pc di sd (heldBy s)) (record { time = s .time; messages = drop 1 (s .messages); reserved = Nobody }) s
+closing pc di sd s = pick (closesOut pc di sd (heldBy s)) (closed s) s
 
 -- a frame for this aircraft, by its fields UF, PC, RR, DI, SD: "reservation and closeout", in this order
 abbrev pub framed : List ℕ → Told → Told
