@@ -43,7 +43,7 @@ lapsed-twice now then (Since s) h = go (isOver then s) refl
 
 locks-since : (now : ℕ) (l : Lock) → locks (lockAfter now l) ≡ lockedSince now l
 locks-since now Never = refl
-locks-since now (Since s) = rw (over-or-lasts now s) (go (lasts now s))
+locks-since now (Since s) = ap (λ (b : Bool). locks (pick b Never (Since s))) (over-or-lasts now s) ∙ go (lasts now s)
   where
     go : (b : Bool) → locks (pick (not b) Never (Since s)) ≡ b
     go true = refl

@@ -34,7 +34,7 @@ use Rattle.transponder.proofs.Timing.{over-or-lasts, over-later}
 -- what has lapsed is what does not last
 lapsed-is : (now : ℕ) (h : Holder) → holderAfter now h ≡ holdsAt now h
 lapsed-is now Nobody = refl
-lapsed-is now (Held ii s) = rw (over-or-lasts now s) (go (lasts now s))
+lapsed-is now (Held ii s) = ap (λ (b : Bool). pick b Nobody (Held ii s)) (over-or-lasts now s) ∙ go (lasts now s)
   where
     go : (b : Bool) → pick (not b) Nobody (Held ii s) ≡ pick b (Held ii s) Nobody
     go true = refl
