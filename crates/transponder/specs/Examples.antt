@@ -14,6 +14,7 @@ use Rattle.transponder.specs.declared.state.Sent.{Sent}
 use Rattle.transponder.specs.Calls.{queuing, taking}
 use Rattle.transponder.specs.History as history
 use Rattle.transponder.specs.History.{Aircraft, Call, after}
+use Rattle.transponder.specs.Story.{heldBy, showsDR, showsUM, showsMB}
 use Rattle.transponder.specs.Seen.{numberOn, told}
 use Rattle.transponder.specs.Replied.{sentTo}
 use Rattle.transponder.specs.Demands.{sentBy}
@@ -74,16 +75,19 @@ fieldsOf r = readDown (take (r .length) (r .bytes)) .values
 -- DR, UM and MB of the reply to UF 4 at a time, with PC, RR, DI and SD
 abbrev shown : List Call → ℕ → ℕ → ℕ → ℕ → ℕ → List ℕ → Row
 shown cs time pc rr di sd paper =
-    let c : Case = record { before = cs; time = time; draw = 0; frame = asking pc rr di sd } in
-    let commB : Sent → List ℕ = λ r. getD (fieldsOf r) 2 0 ∷ getD (fieldsOf r) 3 0 ∷ getD (fieldsOf r) 5 0 ∷ [] in
-    row (commB (seen c) ++ commB (tells c)) (paper ++ paper)
+    let f = asking pc rr di sd in
+    let vs = fieldsOf (seen (record { before = cs; time = time; draw = 0; frame = f })) in
+    let s = told aircraft (history.take time 0 f ∷ cs) in
+    let tells = showsDR (s .messages) ∷ showsUM di sd (heldBy s) ∷ showsMB rr di sd (s .messages) ∷ [] in
+    row ((getD vs 2 0 ∷ getD vs 3 0 ∷ getD vs 5 0 ∷ []) ++ tells) (paper ++ paper)
 
 -- DF and AC or ID of the reply to UF and RR
 abbrev drawing : ℕ → ℕ → List ℕ → Row
 drawing uf rr paper =
     let c : Case = record { before = []; time = 0; draw = 0; frame = frames.selective uf 0 rr 0 0 0 0x484FDE } in
-    let drawn : Sent → List ℕ = λ r. getD (fieldsOf r) 0 0 ∷ getD (fieldsOf r) 4 0 ∷ [] in
-    row (drawn (seen c) ++ drawn (tells c)) (paper ++ paper)
+    let us = fieldsOf (seen c) in
+    let vs = fieldsOf (tells c) in
+    row (getD us 0 0 ∷ getD us 4 0 ∷ getD vs 0 0 ∷ getD vs 4 0 ∷ []) (paper ++ paper)
 
 -- an all-call at a time, with PR, IC, CL and its draw
 abbrev called : List Call → ℕ → ℕ → ℕ → ℕ → ℕ → Case

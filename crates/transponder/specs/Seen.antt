@@ -27,7 +27,9 @@ isFor address vs = eqb (length vs) 7 && laidOver address (getD vs 6 0)
 -- after one call more that is not refused: a message waits; a frame moves time, and one for this aircraft also reserves and closes out
 abbrev pub toldBy : Aircraft → Call → Told → Told
 toldBy a (queue m b) s = withMessage (numberOf m) s
-toldBy a (take time draw f) s = pick (isFor (a .address) (readUp f .values)) (framed (readUp f .values) (moved time s)) (moved time s)
+toldBy a (take time draw f) s =
+    let vs = readUp f .values in
+    pick (isFor (a .address) vs) (framed vs (moved time s)) (moved time s)
 
 -- after one call more with its number: "a refusal .. changes nothing"
 abbrev pub toldAfter : Aircraft → Call → ℕ → Told → Told
