@@ -1,4 +1,4 @@
--- The theorems of the transponder: examples, timers, draws, what a call comes to, who holds, what every history keeps, numbers and replies.
+-- The theorems of the transponder: examples, timers, draws, what a call comes to, who holds, what every history keeps, numbers, what the calls tell, and replies.
 pub mod Agreed
 pub mod Timing
 pub mod Draws
@@ -9,5 +9,7 @@ pub mod Keeping
 pub mod Numbers
 pub mod Telling
 pub mod Locked
+pub mod Responding
+pub mod Calling
 pub mod Sending
 pub mod Demands
