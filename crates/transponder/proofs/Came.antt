@@ -23,11 +23,12 @@ use Rattle.transponder.specs.declared.state.Went.{Went}
 use Rattle.transponder.specs.declared.state.Took.{Took}
 use Rattle.transponder.specs.State.{waiting, messagesWith, withMessages}
 use Rattle.transponder.specs.Lapse.{lapse}
-use Rattle.transponder.specs.Replies.{sending, drOf, umOf, mbOf, valueOf, respond}
+use Rattle.transponder.specs.Replies.{silence, sending, drOf, umOf, mbOf, valueOf, respond}
 use Rattle.transponder.specs.Calls as calls
 use Rattle.transponder.specs.Calls.{queuing, steps, interrogated, unmoved, laidOver, heardSelective, heardAllCall, heard, refusing, taking}
 use Rattle.transponder.specs.History.{Call, queue, take, Answer, refused, done, answer}
 use Rattle.transponder.specs.Seen.{isFor}
+use Rattle.transponder.specs.Demands.{sentBy}
 
 -- what holds of both holds of either
 pub of-pick : {A : Type 0} (P : A → Type 0) (b : Bool) (x y : A) → P x → P y → P (pick b x y)
@@ -114,31 +115,33 @@ refusal-changes-nothing t c n = go c (answer t c) n (came t c)
     go c r n (did-steps time draw f i p e) = absurd (no-done _ e n)
 
 -- and nothing is sent
-pub refusal-sends-nothing : (t : Transponder) (time draw : ℕ) (f : List ℕ) → (taking t time draw f .number ≡ 0 → ⊥) → taking t time draw f .length ≡ 0
+pub refusal-sends-nothing : (t : Transponder) (time draw : ℕ) (f : List ℕ) → (taking t time draw f .number ≡ 0 → ⊥) → sentBy (taking t time draw f) ≡ silence
 unfolding taking
 refusal-sends-nothing t time draw f = go (whole (length f)) (leb draw 15) (leb (t .time) time)
   where
-    go : (a b d : Bool) → let r = pick a (pick b (pick d (calls.done (heard draw (lapse time t) (readUp f .values))) (refusing 15 t)) (refusing 2 t)) (refusing 1 t) in (r .number ≡ 0 → ⊥) → r .length ≡ 0
+    go : (a b d : Bool) → let r = pick a (pick b (pick d (calls.done (heard draw (lapse time t) (readUp f .values))) (refusing 15 t)) (refusing 2 t)) (refusing 1 t) in (r .number ≡ 0 → ⊥) → sentBy r ≡ silence
     go true true true n = absurd (n refl)
     go true true false n = refl
     go true false d n = refl
     go false b d n = refl
 
--- ---- a frame that is not refused
-pub taken-is : (t : Transponder) (time draw : ℕ) (f : List ℕ) → taking t time draw f .number ≡ 0 → taking t time draw f ≡ calls.done (heard draw (lapse time t) (readUp f .values))
+-- ---- a frame that is not refused comes in time, and is heard
+pub taken-is : (t : Transponder) (time draw : ℕ) (f : List ℕ) → taking t time draw f .number ≡ 0
+    → (t .time ≤ time) × (taking t time draw f ≡ calls.done (heard draw (lapse time t) (readUp f .values)))
 unfolding taking
-taken-is t time draw f = go (whole (length f)) (leb draw 15) (leb (t .time) time) _
+taken-is t time draw f = go (whole (length f)) (leb draw 15) (leb (t .time) time) refl _
   where
-    go : (x y z : Bool) (w : Took) → pick x (pick y (pick z w (refusing 15 t)) (refusing 2 t)) (refusing 1 t) .number ≡ 0 → pick x (pick y (pick z w (refusing 15 t)) (refusing 2 t)) (refusing 1 t) ≡ w
-    go true true true w e = refl
-    go true true false w e = absurd (omega arith)
-    go true false z w e = absurd (omega arith)
-    go false y z w e = absurd (omega arith)
+    go : (x y z : Bool) → leb (t .time) time ≡ z → (w : Took) → pick x (pick y (pick z w (refusing 15 t)) (refusing 2 t)) (refusing 1 t) .number ≡ 0
+        → (t .time ≤ time) × (pick x (pick y (pick z w (refusing 15 t)) (refusing 2 t)) (refusing 1 t) ≡ w)
+    go true true true p w e = (leb-true (t .time) time p, refl)
+    go true true false p w e = absurd (omega arith)
+    go true false z p w e = absurd (omega arith)
+    go false y z p w e = absurd (omega arith)
 
 -- what is not for this aircraft changes time alone, and gets no reply
 module _ (t : Transponder) (time draw : ℕ) (f : List ℕ) (n : taking t time draw f .number ≡ 0) where
   reads : (vs : List ℕ) → readUp f .values ≡ vs → taking t time draw f ≡ calls.done (heard draw (lapse time t) vs)
-  reads vs e = taken-is t time draw f n ∙ ap (λ (v : List ℕ). calls.done (heard draw (lapse time t) v)) e
+  reads vs e = taken-is t time draw f n .1 ∙ ap (λ (v : List ℕ). calls.done (heard draw (lapse time t) v)) e
 
   pub another-address : (uf pc rr di sd ma r : ℕ) → readUp f .values ≡ uf ∷ pc ∷ rr ∷ di ∷ sd ∷ ma ∷ r ∷ [] → laidOver (t .address) r ≡ false → taking t time draw f ≡ calls.done (unmoved (lapse time t))
   unfolding heardSelective lapse

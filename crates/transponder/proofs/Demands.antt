@@ -1,15 +1,13 @@
 -- What holds of every history of a transponder, collected.
 -- Assumes nothing.
-use Prim.Native.Nat.{ℕ}
 use mathlib.Core.Path.{_≡_}
 use mathlib.Core.List.{List}
-use Rattle.transponder.specs.Calls.{taking}
 use Rattle.transponder.specs.History.{Aircraft, made, Call, after}
-use Rattle.transponder.specs.Demands.{Demand1, Obeys, Sends}
+use Rattle.transponder.specs.Demands.{Demand1, Obeys, Holds, Sends}
 use Rattle.transponder.proofs.Came.{refusal-changes-nothing, refusal-sends-nothing}
 use Rattle.transponder.proofs.Keeping.{time-never-goes-back}
 use Rattle.transponder.proofs.Locked.{locked-exactly}
-use Rattle.transponder.proofs.Numbers.{numbers}
+use Rattle.transponder.proofs.Telling.{numbers, always-told}
 use Rattle.transponder.proofs.Sending.{always-sent}
 
 -- demand 1
@@ -27,6 +25,10 @@ demand1 a m cs =
 pub obeys : (a : Aircraft) → made a .number ≡ 0 → (cs : List Call) → Obeys a cs
 obeys a m cs = record { locked = λ c ok. locked-exactly a c ok m cs }
 
+-- demand 2, Comm-B
+pub holds : (a : Aircraft) → made a .number ≡ 0 → (cs : List Call) → Holds a cs
+holds = always-told
+
 -- demand 2, replies
-pub sends : (a : Aircraft) → made a .number ≡ 0 → (cs : List Call) (time draw : ℕ) (f : List ℕ) → taking (after a cs) time draw f .number ≡ 0 → Sends a cs time draw f
-sends = always-sent
+pub sends : (a : Aircraft) → made a .number ≡ 0 → (cs : List Call) → Sends a cs
+sends a m cs = record { sent = always-sent a m cs }

@@ -1,13 +1,13 @@
 -- Theorem of lockout: in every history a code is locked exactly while less than 180 tenths have passed since its last command.
 -- Assumes nothing.
-use Prim.Native.Nat.{ℕ, zero, suc, _+_, _-_, _<_, _≤_}
+use Prim.Native.Nat.{ℕ, zero, suc, _+_, _<_, _≤_}
 use native.Mathlib.Omega.{arith}
 use mathlib.Core.Path.{_≡_, refl, sym, ap, _∙_, subst}
-use mathlib.Core.Bool.{Bool, true, false, _&&_, _||_}
+use mathlib.Core.Bool.{Bool, true, false, _&&_, _||_, not}
 use mathlib.Core.List.{List, [], _∷_}
 use lib.Dec.{eqb}
 use lib.ListN.{length, getD, replicate}
-use borrow.Author.Tests.{eqb-true, eqb-false, ne-eqb, leb-true, leb-false, lt-ltb, le-ltb, le-leb}
+use borrow.Author.Tests.{eqb-true, eqb-false, ne-eqb}
 use Rattle.lists.specs.Lists.{pick}
 use Rattle.fields.specs.Reading.{readUp}
 use Rattle.fields.specs.declared.answers.Interrogator.{Interrogator}
@@ -18,16 +18,18 @@ use Rattle.transponder.specs.declared.state.Timer.{Timer}
 use Rattle.transponder.specs.declared.state.Timers.{Timers}
 use Rattle.transponder.specs.declared.state.Transponder.{Transponder}
 use Rattle.transponder.specs.State.{placeOf, idle, waits, started}
-use Rattle.transponder.specs.Lapse.{lasting, isOver, lockAfter, timerAfter, lapse}
+use Rattle.transponder.specs.Lapse.{isOver, lockAfter, timerAfter, lapse}
 use Rattle.transponder.specs.Lockout.{iis, los, sis, lss, commandOfPC, startedByLOS, startedByLSS, commandOfSD, commanded, lockout, locks, lockedTo}
 use Rattle.transponder.specs.CommB.{asksToHold, nobodyElse, reserve, closes, closeout}
 use Rattle.transponder.specs.Calls.{newborn, making, steps}
 use Rattle.transponder.specs.History.{Aircraft, made, Call, queue, take, Answer, answer, after}
 use Rattle.transponder.specs.Kept.{Kept}
-use Rattle.transponder.specs.Seen.{ACode, isCode, isFor, commandsIn, commandAfter, lastCommand, lockedSince}
+use Rattle.transponder.specs.Story.{lasts}
+use Rattle.transponder.specs.Seen.{ACode, isCode, isFor, told, commandsIn, commandAfter, lastCommand, lockedSince}
 use Rattle.transponder.proofs.Came.{of-pick, stepsOf, Came, refusal, did-queue, did-lapse, did-steps, came}
 use Rattle.transponder.proofs.Keeping.{ranged-of, kept-lapse, always-kept, steps-time, lapse-time}
-use Rattle.transponder.proofs.Timing.{at-place, own-timer, other-timer, si-not-ii, ii-one, si-one, started-length}
+use Rattle.transponder.proofs.Telling.{numbers, always-told}
+use Rattle.transponder.proofs.Timing.{over-or-lasts, over-later, at-place, own-timer, other-timer, si-not-ii, ii-one, si-one, started-length}
 
 -- ---- a lock at a time
 -- what has lapsed by a time has lapsed later
@@ -37,18 +39,15 @@ lapsed-twice now then (Since s) h = go (isOver then s) refl
   where
     go : (b : Bool) → isOver then s ≡ b → lockAfter now (pick b Never (Since s)) ≡ lockAfter now (Since s)
     go false e = refl
-    go true e =
-        let p = leb-true lasting (then - s) e in
-        let q : isOver now s ≡ true = le-leb lasting (now - s) (omega (arith, p, h)) in
-        rw q
+    go true e = rw (over-later now then s h e)
 
 locks-since : (now : ℕ) (l : Lock) → locks (lockAfter now l) ≡ lockedSince now l
 locks-since now Never = refl
-locks-since now (Since s) = go (isOver now s) refl
+locks-since now (Since s) = ap (λ (b : Bool). locks (pick b Never (Since s))) (over-or-lasts now s) ∙ go (lasts now s)
   where
-    go : (b : Bool) → isOver now s ≡ b → locks (pick b Never (Since s)) ≡ lockedSince now (Since s)
-    go true e = let p = leb-true lasting (now - s) e in sym (le-ltb (now - s) 180 (omega (arith, p)))
-    go false e = let p = leb-false lasting (now - s) e in sym (lt-ltb (now - s) 180 (omega (arith, p)))
+    go : (b : Bool) → locks (pick (not b) Never (Since s)) ≡ b
+    go true = refl
+    go false = refl
 
 -- ---- the lock at a code's place
 abbrev lockAt : Interrogator → Timers → Lock
@@ -190,10 +189,14 @@ module _ (a : Aircraft) (c : Interrogator) (ok : ACode c) where
   agree-always : made a .number ≡ 0 → (cs : List Call) → Agree (after a cs) (lastCommand a c cs)
   unfolding after lastCommand
   agree-always m [] = λ now q. ap (λ (x : Lock). lockAfter now x) (newborn-lock a m c)
-  agree-always m (x ∷ cs) = agree-next (after a cs) (always-kept a m cs) (lastCommand a c cs) x (answer (after a cs) x) (came (after a cs) x) (agree-always m cs)
+  agree-always m (x ∷ cs) =
+      let g = agree-next (after a cs) (always-kept a m cs) (lastCommand a c cs) x (answer (after a cs) x) (came (after a cs) x) (agree-always m cs) in
+      rw (numbers a m cs x) at g
 
   -- in every history, at every time from its last one on
-  pub locked-exactly : made a .number ≡ 0 → (cs : List Call) (now : ℕ) → after a cs .time ≤ now → lockedTo c (lapse now (after a cs) .timers) ≡ lockedSince now (lastCommand a c cs)
+  pub locked-exactly : made a .number ≡ 0 → (cs : List Call) (now : ℕ) → told a cs .time ≤ now
+      → lockedTo c (lapse now (after a cs) .timers) ≡ lockedSince now (lastCommand a c cs)
   unfolding lockedTo lapse timerAfter
-  locked-exactly m cs now q =
+  locked-exactly m cs now p =
+      let q = rw (← always-told a m cs .clock) at p in
       ap (λ (x : Timer). locks (x .lock)) (at-place c now (after a cs .timers)) ∙ ap locks (agree-always m cs now q) ∙ locks-since now (lastCommand a c cs)

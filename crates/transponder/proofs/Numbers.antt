@@ -1,4 +1,4 @@
--- The numbers given back: every making and every call of a history is given the number that document 01's table says.
+-- The numbers given back: every making, and every call after a story, is given the number that document 01's table says.
 -- Assumes nothing.
 use Prim.Native.Nat.{ℕ, _≤_}
 use native.Mathlib.Omega.{arith}
@@ -16,10 +16,11 @@ use Rattle.transponder.specs.declared.state.Transponder.{Transponder}
 use Rattle.transponder.specs.declared.state.Took.{Took}
 use Rattle.transponder.specs.State.{waiting}
 use Rattle.transponder.specs.Calls.{newborn, makeRanged, making, queuing, refusing, taking}
-use Rattle.transponder.specs.History.{Aircraft, made, Call, queue, take, answer, after}
+use Rattle.transponder.specs.History.{Aircraft, made, Call, queue, take, answer}
 use Rattle.lists.specs.Checks.{given}
-use Rattle.transponder.specs.Numbers.{inRange, makingChecks, checks}
-use Rattle.transponder.proofs.Keeping.{always-kept}
+use Rattle.transponder.specs.Story.{Told}
+use Rattle.transponder.specs.Numbers.{inRange, makingChecks}
+use Rattle.transponder.specs.Seen.{numberOn}
 
 -- ---- a making
 pub making-number : (a : Aircraft) → made a .number ≡ given (makingChecks a)
@@ -46,31 +47,31 @@ full n h = go (leb 8 n) refl
     go true e = let p = leb-true 8 n e in sym (eq-eqb n 8 (omega arith))
     go false e = let p = leb-false 8 n e in sym (ne-eqb n 8 (λ q. omega arith))
 
--- ---- a frame: a check that is passed leads to the next, and else its number is given
-module _ (t : Transponder) where
+-- ---- after a story with the transponder's clock and as many messages
+module _ (t : Transponder) (s : Told) (clock : t .time ≡ s .time) (many : length (waiting (t .messages)) ≡ length (s .messages)) where
+  -- a frame: a check that is passed leads to the next, and else its number is given
   check : (b : Bool) (n m : ℕ) (y : Took) → y .number ≡ m → pick b y (refusing n t) .number ≡ pick (not b) n m
   check true n m y e = e
   check false n m y e = refl
 
-  frame-number : (time draw : ℕ) (f : List ℕ) → taking t time draw f .number ≡ given (checks t (take time draw f))
+  frame-number : (time draw : ℕ) (f : List ℕ) → taking t time draw f .number ≡ numberOn s (take time draw f)
   unfolding taking given
   frame-number time draw f =
       check (whole (length f)) 1 _ _
       (check (leb draw 15) 2 _ _
-      (check (leb (t .time) time) 15 0 _ refl ∙ ap (λ (b : Bool). pick b 15 0) (not-leb (t .time) time))
-      ∙ ap (λ (b : Bool). pick b 2 (pick (ltb time (t .time)) 15 0)) (not-leb draw 15))
+      (check (leb (t .time) time) 15 0 _ refl ∙ ap (λ (b : Bool). pick b 15 0) (not-leb (t .time) time ∙ ap (ltb time) clock))
+      ∙ ap (λ (b : Bool). pick b 2 (pick (ltb time (s .time)) 15 0)) (not-leb draw 15))
 
   -- a message
-  message-number : (m : List ℕ) (b : AreBytes m) → length (waiting (t .messages)) ≤ 8 → queuing t m .number ≡ given (checks t (queue m b))
+  message-number : (m : List ℕ) (b : AreBytes m) → length (waiting (t .messages)) ≤ 8 → queuing t m .number ≡ numberOn s (queue m b)
   unfolding queuing given
-  message-number m b h = rw (← full (length (waiting (t .messages))) h) (go (eqb (length m) 7) (leb 8 (length (waiting (t .messages)))) _)
+  message-number m b h = rw (← many, ← full (length (waiting (t .messages))) h) (go (eqb (length m) 7) (leb 8 (length (waiting (t .messages)))) _)
     where
       go : (x y : Bool) (u : Transponder) → pick {A = Queued} x (pick y (record { number = 6; transponder = t }) (record { number = 0; transponder = u })) (record { number = 1; transponder = t }) .number ≡ pick (not x) 1 (pick y 6 0)
       go true true u = refl
       go true false u = refl
       go false y u = refl
 
--- ---- of every history
-pub numbers : (a : Aircraft) → made a .number ≡ 0 → (cs : List Call) (c : Call) → answer (after a cs) c .number ≡ given (checks (after a cs) c)
-numbers a e cs (queue m b) = message-number (after a cs) m b (always-kept a e cs .eight)
-numbers a e cs (take time draw f) = frame-number (after a cs) time draw f
+  pub number-on : length (waiting (t .messages)) ≤ 8 → (c : Call) → answer t c .number ≡ numberOn s c
+  number-on h (queue m b) = message-number m b h
+  number-on h (take time draw f) = frame-number time draw f

@@ -3,10 +3,10 @@
 use Prim.Native.Nat.{ℕ, _+_, _-_, _<_, _≤_}
 use native.Mathlib.Omega.{arith}
 use mathlib.Core.Path.{_≡_, refl}
-use mathlib.Core.Bool.{Bool, true, false, _||_}
+use mathlib.Core.Bool.{Bool, true, false, _||_, not}
 use mathlib.Core.Logic.{_⊎_, inl, inr}
 use lib.Dec.{eqb}
-use borrow.Author.Tests.{eqb-true, eqb-false, ne-eqb, leb-true, leb-false}
+use borrow.Author.Tests.{eqb-true, eqb-false, ne-eqb, leb-true, leb-false, le-leb, le-ltb, lt-ltb}
 use lib.ListN.{length, getD, length-set, List·getD-map}
 use lib.Seq.{getD-set-same, getD-set-other, set-out}
 use Rattle.lists.specs.Lists.{pick}
@@ -18,6 +18,18 @@ use Rattle.transponder.specs.declared.state.Transponder.{Transponder}
 use Rattle.transponder.specs.State.{placeOf, idle, started}
 use Rattle.transponder.specs.Lapse.{lasting, isOver, timerAfter, timersAfter}
 use Rattle.transponder.specs.Lockout.{iis, los, sis, lss, commandOfPC, startedByLOS, startedByLSS, commandOfSD, commanded, lockout, locks, lockedTo}
+use Rattle.transponder.specs.Story.{lasts}
+
+-- ---- less than 180 tenths: what is over does not last, and what is over at a time is over later
+pub over-or-lasts : (now s : ℕ) → isOver now s ≡ not (lasts now s)
+over-or-lasts now s = go (isOver now s) refl
+  where
+    go : (b : Bool) → isOver now s ≡ b → b ≡ not (lasts now s)
+    go true e = let p = leb-true lasting (now - s) e in rw (le-ltb (now - s) 180 p)
+    go false e = let p = leb-false lasting (now - s) e in rw (lt-ltb (now - s) 180 p)
+
+pub over-later : (now then s : ℕ) → then ≤ now → isOver then s ≡ true → isOver now s ≡ true
+over-later now then s h e = let p = leb-true lasting (then - s) e in le-leb lasting (now - s) (omega arith)
 
 -- what stands at a code's place after a lapse is what stood there, lapsed
 pub at-place : (code : Interrogator) (now : ℕ) (t : Timers) → getD (timersAfter now t .list) (placeOf code) idle ≡ timerAfter now (getD (t .list) (placeOf code) idle)

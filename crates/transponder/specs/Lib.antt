@@ -6,8 +6,10 @@ pub mod CommB
 pub mod Replies
 pub mod Calls
 pub mod History
+pub mod Story
 pub mod Numbers
 pub mod Seen
+pub mod Replied
 pub mod Kept
 pub mod Demands
 pub mod Examples

@@ -42,9 +42,13 @@ sending o = pick (eqb (o .number) 0) (sentBytes (o .output)) silence
 abbrev pub drOf : Messages → ℕ
 drOf m = pick (waits m) 1 0
 
+-- "RSS (.. bits 27-28)"
+abbrev pub rss : ℕ → ℕ
+rss sd = valueAt (bitsTo 27 28) sd
+
 -- "RSS (DI 1, bits 27-28) is 2 or 3"
 abbrev pub hidesUM : ℕ → ℕ → Bool
-hidesUM di sd = eqb di 1 && leb 2 (valueAt (bitsTo 27 28) sd)
+hidesUM di sd = eqb di 1 && leb 2 (rss sd)
 
 -- "UM is 4×holder+1 while held, zero otherwise or when RSS is 2 or 3"
 abbrev pub umOf : ℕ → ℕ → Holder → ℕ

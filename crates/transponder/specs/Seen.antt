@@ -1,11 +1,13 @@
--- What a caller has seen of a history, and from that alone when a code was last commanded. Nothing here knows the transponder's timers.
--- Assumes nothing: these are definitions.
-use Prim.Native.Nat.{ℕ, _-_, _≤_}
+-- What a caller has seen of a history, and from that alone the number of each call, the story of Comm-B and when a code was last commanded.
+-- Nothing here knows the transponder.
+use Prim.Native.Nat.{ℕ, _≤_}
 use mathlib.Core.Bool.{Bool, false, _&&_, _||_}
 use mathlib.Core.List.{List, [], _∷_}
-use lib.Dec.{eqb, ltb}
+use lib.Dec.{eqb}
 use lib.ListN.{length, getD}
 use Rattle.lists.specs.Lists.{pick}
+use Rattle.lists.specs.Checks.{given}
+use Rattle.fields.specs.Bytes.{numberOf}
 use Rattle.fields.specs.Reading.{readUp}
 use Rattle.fields.specs.declared.answers.Interrogator.{Interrogator}
 use Rattle.fields.specs.declared.answers.Interrogator.the-variants.{II, SI, Nobody}
@@ -13,8 +15,38 @@ use Rattle.transponder.specs.declared.state.Lock.{Lock}
 use Rattle.transponder.specs.declared.state.Lock.the-variants.{Never, Since}
 use Rattle.transponder.specs.Lockout.{commandOfPC, commandOfSD}
 use Rattle.transponder.specs.Calls.{laidOver}
-use Rattle.transponder.specs.History.{Aircraft, Call, queue, take, answer, after}
+use Rattle.transponder.specs.History.{Aircraft, Call, queue, take}
+use Rattle.transponder.specs.Story.{Told, untold, lasts, withMessage, moved, framed}
+use Rattle.transponder.specs.Numbers.{checks}
 
+-- whether the fields of a frame are those of a selective interrogation for an address: seven, the remainder last
+abbrev pub isFor : ℕ → List ℕ → Bool
+isFor address vs = eqb (length vs) 7 && laidOver address (getD vs 6 0)
+
+-- ---- the story of a history
+-- after one call more that is not refused: a message waits; a frame moves time, and one for this aircraft also reserves and closes out
+abbrev pub toldBy : Aircraft → Call → Told → Told
+toldBy a (queue m b) s = withMessage (numberOf m) s
+toldBy a (take time draw f) s =
+    let vs = readUp f .values in
+    pick (isFor (a .address) vs) (framed vs (moved time s)) (moved time s)
+
+-- after one call more with its number: "a refusal .. changes nothing"
+abbrev pub toldAfter : Aircraft → Call → ℕ → Told → Told
+toldAfter a c number s = pick (eqb number 0) (toldBy a c s) s
+
+-- the number that a call is given after a story
+abbrev pub numberOn : Told → Call → ℕ
+numberOn s c = given (checks s c)
+
+-- the story of all calls; the newest stands first
+unfoldable pub told : Aircraft → List Call → Told
+told a [] = untold
+told a (c ∷ cs) =
+    let s = told a cs in
+    toldAfter a c (numberOn s c) s
+
+-- ---- lockout
 -- "II 0-15, SI 1-63"
 abbrev pub ACode : Interrogator → Type 0
 ACode (II n) = n ≤ 15
@@ -33,10 +65,6 @@ isCode Nobody (II m) = false
 isCode Nobody (SI m) = false
 isCode Nobody Nobody = false
 
--- whether the fields of a frame are those of a selective interrogation for an address: seven, the remainder last
-abbrev pub isFor : ℕ → List ℕ → Bool
-isFor address vs = eqb (length vs) 7 && laidOver address (getD vs 6 0)
-
 -- whether its PC, or its DI and SD, command a code
 abbrev pub commandsIn : Interrogator → List ℕ → Bool
 commandsIn c vs = isCode c (commandOfPC (getD vs 1 0)) || isCode c (commandOfSD (getD vs 3 0) (getD vs 4 0))
@@ -52,9 +80,9 @@ commandAfter a c (take time draw f) number old = pick (eqb number 0 && commands 
 
 unfoldable pub lastCommand : Aircraft → Interrogator → List Call → Lock
 lastCommand a c [] = Never
-lastCommand a c (x ∷ cs) = commandAfter a c x (answer (after a cs) x .number) (lastCommand a c cs)
+lastCommand a c (x ∷ cs) = commandAfter a c x (numberOn (told a cs) x) (lastCommand a c cs)
 
 -- "locks while less than 180 tenths have passed since its command"
 abbrev pub lockedSince : ℕ → Lock → Bool
 lockedSince now Never = false
-lockedSince now (Since s) = ltb (now - s) 180
+lockedSince now (Since s) = lasts now s
