@@ -4,6 +4,7 @@ use Prim.Native.Nat.{ℕ}
 use mathlib.Core.Path.{refl}
 use mathlib.Core.List.{List, [], _∷_}
 use lib.ListN.{replicate}
+use Rattle.lists.specs.Lists.{pick}
 use Rattle.lists.specs.Listing.{Row, row, Agrees}
 use Rattle.remainders.specs.Messages.{bits}
 use Rattle.remainders.specs.Division.{shiftIn, divide, remainderOf}
@@ -51,6 +52,10 @@ draws Nothing = []
 abbrev built : ℕ → ℕ → List ℕ
 built uf address = let o = building uf 0 0 0 0 (replicate 7 0) address (replicate 7 9) in o .number ∷ o .output
 
+-- 1 where UF, RR and MA are in their ranges, with PC, DI and SD at their highest
+abbrev ranged : ℕ → ℕ → ℕ → ℕ
+ranged uf rr ma = pick (selectiveRanged uf 7 rr 7 0xFFFF ma 1) 1 0
+
 -- the published frames with every field given, codes of two of them, the MB bytes of one, the codes and what is drawn at the edges, and refusals
 abbrev pub listing : List Row
 listing =
@@ -85,9 +90,11 @@ listing =
     ∷ row (built 6 1) (2 ∷ replicate 7 9)
     ∷ row (built 4 0) (2 ∷ replicate 7 9)
     ∷ row (built 4 0xFFFFFF) (2 ∷ replicate 7 9)
+    ∷ row (ranged 4 31 0 ∷ ranged 20 31 0xFFFFFFFFFFFFFF ∷ []) (1 ∷ 1 ∷ [])
+    ∷ row (ranged 6 0 0 ∷ ranged 11 0 0 ∷ ranged 4 32 0 ∷ ranged 5 0 1 ∷ ranged 21 0 0x100000000000000 ∷ []) (replicate 5 0)
     ∷ []
 
 -- the one claim
 pub listing-agrees : Agrees listing
 unfolding bits shiftIn divide remainderOf headOf midOf readAs surveillanceRead allCallReplyRead whose codeOf codeFor drawn selectiveRanged building
-listing-agrees = (refl, (refl, (refl, (refl, (refl, (refl, (refl, (refl, (refl, (refl, (refl, (refl, (refl, (refl, (refl, (refl, (refl, (refl, (refl, (refl, (refl, (refl, (refl, (refl, (refl, (refl, (refl, (refl, (refl, (refl, (refl, tt)))))))))))))))))))))))))))))))
+listing-agrees = (refl, (refl, (refl, (refl, (refl, (refl, (refl, (refl, (refl, (refl, (refl, (refl, (refl, (refl, (refl, (refl, (refl, (refl, (refl, (refl, (refl, (refl, (refl, (refl, (refl, (refl, (refl, (refl, (refl, (refl, (refl, (refl, (refl, tt)))))))))))))))))))))))))))))))))

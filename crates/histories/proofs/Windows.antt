@@ -8,7 +8,7 @@ use mathlib.Core.Path.{_≡_, refl, sym, ap, _∙_}
 use mathlib.Core.List.{List}
 use lib.ListN.{length}
 use lib.IntN.{ℤ, pos, negℤ, subℕ, _+ℤ_, _-ℤ_, +ℤ-assoc, negℤ-+ℤ}
-use mathlib.Core.Bool.{Bool, true, false, _&&_}
+use mathlib.Core.Bool.{Bool, true, false}
 use mathlib.Core.Logic.{_⊎_, inl, inr}
 use lib.Dec.{leb, ltb, eqb}
 use borrow.Author.Tests.{ltb-true, ltb-false}
@@ -18,14 +18,14 @@ use Rattle.lists.proofs.Signed.{minus, sub-nothing, same-difference, difference
 use Rattle.fields.specs.Formats.{surveillance, lengthOf}
 use Rattle.fields.specs.declared.answers.Draws.the-variants.{Format}
 use Rattle.fields.specs.Shared.{shortReply, drawn}
-use Rattle.fields.specs.Building.{selectiveRanged}
-use Rattle.fields.proofs.Ranges.{surveillance-is, selective-in}
+use Rattle.fields.proofs.Ranges.{surveillance-is}
 use Rattle.plans.specs.declared.entry.Entry.{Entry}
 use Rattle.plans.specs.declared.request.Request.{Request}
 use Rattle.plans.specs.Exchange.{sentShort, sentLong, replyShort, replyLong, earliest, latest, sentFor, replyFor, listens}
 use Rattle.histories.specs.Calls.{requestRanged}
 use Rattle.histories.specs.Replies.{formatIn, expected, startOf, inWindow, delayOf}
 use Rattle.histories.specs.Demands.{lasts, InTime}
+use Rattle.histories.proofs.Keeping.{request-in}
 
 -- a reply that starts s ticks after the plan's tag has that start, wherever the counter wraps
 pub start-is : (planTag s : ℕ) → planTag < 2 ^ 32 → s < 2 ^ 32 → startOf ((planTag + s) % 2 ^ 32) planTag ≡ s
@@ -89,17 +89,9 @@ as-long-as-drawn q h r = rw (h, le-leb (q .rr) 31 r) (go (leb 16 (q .rr)))
     go false = rw (each-format (q .uf) h .short)
 
 -- ---- a reply that is taken
--- a request that was taken has its numbers in their ranges
-ranged : (q : Request) → requestRanged q ≡ true → (surveillance (q .uf) ≡ true) × (q .rr ≤ 31)
-unfolding requestRanged
-ranged q h =
-    let all = selectiveRanged (q .uf) (q .pc) (q .rr) (q .di) (q .sd) (q .ma) (q .address) in
-    let t = and-left (leb (q .unit) 7 && surveillance (q .uf) && all) (leb (q .ma) 0xFFFFFFFFFFFFFF) h in
-    let u = and-left (leb (q .unit) 7 && surveillance (q .uf)) all t in
-    (and-right (leb (q .unit) 7) (surveillance (q .uf)) u, selective-in (q .uf) (q .pc) (q .rr) (q .di) (q .sd) (q .ma) (q .address) (and-right (leb (q .unit) 7 && surveillance (q .uf)) all t) .rr-le)
-
+-- a message of the length that its request expects lasts as long as the plan has it
 lasts-as-drawn : (q : Request) (msg : List ℕ) → requestRanged q ≡ true → length msg ≡ lengthOf (expected q) → lasts msg ≡ replyFor (q .rr)
-lasts-as-drawn q msg h e = let g = ranged q h in rw e (sym (as-long-as-drawn q (g .0) (g .1)))
+lasts-as-drawn q msg h e = let g = request-in q h .1 in rw e (sym (as-long-as-drawn q (g .format) (g .rr-le)))
 
 -- a start within the entry's limits, of a message as long as the entry's reply
 pub in-time : (e : Entry) (s : ℕ) (msg : List ℕ) → requestRanged (e .ask .request) ≡ true → length msg ≡ lengthOf (expected (e .ask .request)) → inWindow e s ≡ true → InTime e s msg (delayOf e s)

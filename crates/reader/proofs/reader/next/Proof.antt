@@ -43,7 +43,7 @@ use denote.Triple.Walked.{says, Stays, stay-none, walkOf, goes-none, Walks, ends
 use denote.Exit.{yes}
 use denote.Triple.Clauses.{ensured, lasts}
 use Rattle.records.specs.Records.{recordAt, nextPlace}
-use Rattle.records.specs.Readers.{readerAt, movedOn}
+use Rattle.records.specs.Readers.{readerAt}
 use Rattle.records.specs.declared.reader.Reader.{Reader}
 use Rattle.records.proofs.reader.Reader as T
 use Rattle.records.proofs.reader.Reader.Laws as T′
