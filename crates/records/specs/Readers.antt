@@ -5,6 +5,7 @@ use denote.Ref.{RefT, now}
 use Rattle.records.specs.declared.reader.Reader.{Reader}
 use Rattle.records.specs.declared.reading.Found.{Found}
 use Rattle.records.specs.Records.{recordAt, nextPlace}
+use Rattle.records.specs.Answers.{Answer, toldAt}
 
 -- a reader of a stream at a place
 abbrev pub readerAt : RefT (List ℕ) → ℕ → Reader
@@ -13,6 +14,10 @@ readerAt s at = record { stream = s; place = at }
 -- what the reader finds where it is
 abbrev pub foundBy : Reader → Found
 foundBy r = recordAt (now (r .stream)) (r .place)
+
+-- what is answered for it
+abbrev pub toldBy : Reader → Answer
+toldBy r = toldAt (now (r .stream)) (r .place)
 
 -- the reader at the next record, of the same stream
 abbrev pub movedOn : Reader → Reader

@@ -7,6 +7,7 @@ use Rattle.lists.specs.Lists.{pick}
 use Rattle.records.specs.declared.reading.Found.{Found}
 use Rattle.records.specs.declared.reading.Found.the-variants.{End, Unknown, Cut, Whole}
 use Rattle.records.specs.Records.{recordAt}
+use Rattle.records.specs.Answers.{foundNumber}
 use Rattle.histories.specs.declared.state.Station.{Station}
 use Rattle.histories.specs.State.{blank}
 use Rattle.histories.specs.Calls.{refused}
@@ -17,8 +18,8 @@ use Rattle.transcripts.specs.Step.{Outcome, answered, obeyed}
 -- as record n: nothing; "unknown record kind"; "record cut by the end of the stream"; what a whole record does
 unfoldable pub outcome : List ℕ → ℕ → Station → Found → Outcome
 outcome s n st End = record { lines = []; station = st }
-outcome s n st (Unknown b) = answered n b (refused 16 st)
-outcome s n st (Cut kind) = answered n kind (refused 17 st)
+outcome s n st (Unknown b) = answered n b (refused (foundNumber (Unknown b)) st)
+outcome s n st (Cut kind) = answered n kind (refused (foundNumber (Cut kind)) st)
 outcome s n st (Whole kind body next) = obeyed s n kind body st
 
 -- "kinds 16 and 17 of refusal end the run", as the end of the stream does

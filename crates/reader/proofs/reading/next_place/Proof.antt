@@ -8,6 +8,7 @@ use denote.Enum.Declared.{tagOf}
 use Rattle.records.specs.declared.reading.Found.{Found}
 use Rattle.records.specs.declared.reading.Found.the-variants.{End, Unknown, Cut, Whole}
 use Rattle.records.specs.Records.{nextPlace}
+use Rattle.records.proofs.Answers.{found-is}
 use Rattle.records.proofs.reading.Found as S
 use Rattle.reader.proofs.reading.next_place.Statement.{statement}
 use Rattle.reader.proofs.reading.next_place.Tie as tie
@@ -28,10 +29,10 @@ enum-known-next c = search needs
 
 returns : tie.Need-returns
 unfolding nextPlace
-returns c = ap (λ (f : Found). nextPlace f (c .before .before .before .before .before .args .at)) (sym (c .before .next .given .1) ∙ c .before .before .before .record-at .ensures)
+returns c = ap (λ (f : Found). nextPlace f (c .before .before .before .before .before .args .at)) (sym (c .before .next .given .1) ∙ found-is _ _ (c .before .before .before .record-at .result) (c .before .before .before .record-at .ensures))
 
 returns-2 : tie.Need-returns-2
-returns-2 c = stays (c .before .record-at .result) (c .before .before .before .args .at) (c .match .keys2) ∙ ap (λ (f : Found). nextPlace f (c .before .before .before .args .at)) (c .before .record-at .ensures)
+returns-2 c = stays (c .before .record-at .result) (c .before .before .before .args .at) (c .match .keys2) ∙ ap (λ (f : Found). nextPlace f (c .before .before .before .args .at)) (found-is _ _ (c .before .record-at .result) (c .before .record-at .ensures))
 
 pub next-place-spec : {M : Type 1} → statement M
 next-place-spec = tie.close (tie.spec record-at-requires enum-known-next returns returns-2)

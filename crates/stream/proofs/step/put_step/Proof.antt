@@ -1,5 +1,6 @@
 -- `put_step` judges 16 and 17 before the body, and else obeys the record.
 use mathlib.Core.Path.{sym, _∙_}
+use Rattle.records.proofs.Answers.{found-is}
 use Rattle.stream.proofs.Steps.{step-end, step-unknown, step-cut, step-whole}
 use borrow.Author.Needs.{needs}
 use Rattle.stream.proofs.step.put_step.Statement.{statement}
@@ -30,25 +31,25 @@ obey-requires : tie.Need-obey-requires
 obey-requires c κs = search needs
 
 returns : tie.Need-returns
-returns c = step-end _ _ _ _ (sym (c .before .before .found-at .ensures) ∙ c .enum-told .given .1)
+returns c = step-end _ _ _ _ (sym (found-is _ _ (c .before .before .found-at .result) (c .before .before .found-at .ensures)) ∙ c .enum-told .given .1)
 
 same-length : tie.Need-same-length
 same-length c = search needs
 
 returns-2 : tie.Need-returns-2
-returns-2 c = step-unknown _ _ _ _ (sym (c .before .before .before .before .before .before .before .found-at .ensures) ∙ c .before .before .before .before .before .kind .given .1) (c .before .before .put-answer .ensures)
+returns-2 c = step-unknown _ _ _ _ (sym (found-is _ _ (c .before .before .before .before .before .before .before .found-at .result) (c .before .before .before .before .before .before .before .found-at .ensures)) ∙ c .before .before .before .before .before .kind .given .1) (c .before .before .put-answer .ensures)
 
 same-length-2 : tie.Need-same-length-2
 same-length-2 c = search needs
 
 returns-3 : tie.Need-returns-3
-returns-3 c = step-cut _ _ _ _ (sym (c .before .before .before .before .before .before .before .found-at .ensures) ∙ c .before .before .before .before .before .kind2 .given .1) (c .before .before .put-answer2 .ensures)
+returns-3 c = step-cut _ _ _ _ (sym (found-is _ _ (c .before .before .before .before .before .before .before .found-at .result) (c .before .before .before .before .before .before .before .found-at .ensures)) ∙ c .before .before .before .before .before .kind2 .given .1) (c .before .before .put-answer2 .ensures)
 
 same-length-3 : tie.Need-same-length-3
 same-length-3 c = search needs
 
 returns-4 : tie.Need-returns-4
-returns-4 c = step-whole _ _ _ _ (sym (c .before .before .before .before .before .before .before .before .found-at .ensures) ∙ c .before .before .before .before .before .before .kind3 .given .1) (c .before .before .before .obey .ensures)
+returns-4 c = step-whole _ _ _ _ (sym (found-is _ _ (c .before .before .before .before .before .before .before .before .found-at .result) (c .before .before .before .before .before .before .before .before .found-at .ensures)) ∙ c .before .before .before .before .before .before .kind3 .given .1) (c .before .before .before .obey .ensures)
 
 pub put-step-spec : {M : Type 1} → statement M
 put-step-spec =
