@@ -25,21 +25,23 @@ same-place (Cut kind) at = refl
 same-place (Whole kind body next) at = refl
 
 module _ (s : RefT (List ℕ)) where
-  -- a reader of the stream where the run is
+  -- a reader of the stream where the run is, gone on k times
   abbrev reader : Run → ℕ → ℕ
   reader r k = movedBy k (readerAt s (r .at)) .place
 
-  step : (r : Run) → advanced (now s) r .at ≡ movedOn (readerAt s (r .at)) .place
+  -- a step of a run that goes on ends where the reader goes
+  step : (r : Run) → r .more ≡ true → advanced (now s) r .at ≡ movedOn (readerAt s (r .at)) .place
   unfolding advanced
-  step r = same-place (recordAt (now s) (r .at)) (r .at)
+  step r m = simp (m, same-place)
 
-  -- where a run does not go on, a further step would leave it
+  -- where a run does not go on, its reader stays
   abbrev Rests : Run → Type 0
-  Rests r = r .more ≡ false → advanced (now s) r .at ≡ r .at
+  Rests r = r .more ≡ false → movedOn (readerAt s (r .at)) .place ≡ r .at
 
-  rests-next : (r : Run) → Rests (advanced (now s) r)
-  unfolding advanced
-  rests-next r e = ap (λ (at : ℕ). nextPlace (recordAt (now s) at) at) (ends-there (now s) r e)
+  rests-next : (r : Run) → r .more ≡ true → Rests (advanced (now s) r)
+  rests-next r m e =
+      let stays = ends-there (now s) r e in
+      ap (λ (at : ℕ). movedOn (readerAt s at) .place) stays ∙ sym (step r m)
 
   rested : (k : ℕ) (r : Run) → r .more ≡ false → runAfter k (now s) r ≡ r
   unfolding runAfter
@@ -48,9 +50,9 @@ module _ (s : RefT (List ℕ)) where
 
   one-more : (k : ℕ) (r : Run) → Rests r → ((q : Run) → Rests q → runAfter k (now s) q .at ≡ reader q k)
       → (b : Bool) → r .more ≡ b → pick b (runAfter k (now s) (advanced (now s) r)) r .at ≡ reader r (suc k)
-  one-more k r h later true e = later (advanced (now s) r) (rests-next r) ∙ ap (λ (at : ℕ). movedBy k (readerAt s at) .place) (step r)
+  one-more k r h later true e = later (advanced (now s) r) (rests-next r e) ∙ ap (λ (at : ℕ). movedBy k (readerAt s at) .place) (step r e)
   one-more k r h later false e =
-      sym (ap (λ (q : Run). q .at) (rested k r e)) ∙ later r h ∙ ap (λ (at : ℕ). movedBy k (readerAt s at) .place) (sym (h e) ∙ step r)
+      sym (ap (λ (q : Run). q .at) (rested k r e)) ∙ later r h ∙ ap (λ (at : ℕ). movedBy k (readerAt s at) .place) (sym (h e))
 
   after-steps : (k : ℕ) (r : Run) → Rests r → runAfter k (now s) r .at ≡ reader r k
   unfolding runAfter
