@@ -5,6 +5,7 @@ use mathlib.Core.Path.{_≡_, refl, ap, _∙_}
 use mathlib.Core.List.{List}
 use mathlib.Core.Bool.{Bool, true, false, not}
 use lib.ListN.{length}
+use lib.IntN.{ℤ}
 use lib.Dec.{eqb, ltb}
 use Rattle.lists.specs.Lists.{pick}
 use Rattle.remainders.specs.Answers.{Outcome}
@@ -20,7 +21,7 @@ use Rattle.histories.specs.declared.state.Report.{Report}
 use Rattle.histories.specs.State.{inList, fresh, targetAt, targetsWith, targetsPut, waitingWith, entriesOf, withTargets, withWaiting, emptied}
 use Rattle.histories.specs.Calls.{refused, done, setUp, targetRanged, requestRanged, targetsFull, unitFull, newTarget, without, removed, edged, moved, requested, refusedReport, reported}
 use Rattle.histories.specs.Planning.{nextPlan}
-use Rattle.histories.specs.Replies.{expected, entryNumbered, isOpen, startOf, inWindow, delayOf, heard, Replied, refusedReply, settled, corrected, replied}
+use Rattle.histories.specs.Replies.{expected, entryNumbered, isOpen, startOf, inWindow, heard, Replied, refusedReply, settled, corrected, replied}
 use Rattle.histories.specs.History.{Call, setup, new, remove, move, request, plan, reply, report, answer}
 
 pub data Came (s : Station) : Call → Answer → Type 0 where
@@ -45,35 +46,29 @@ numbered : (n : ℕ) → {b : Bool} → eqb n 0 ≡ false → b ≡ true → n �
 numbered n e _ q = eqb-false n 0 e q
 
 -- ---- a reply, with all that it is answered
--- what is known of a reply that is taken: its entry is in the plan, it has the entry's length, and it starts within the entry's limits
-pub record Right (s : Station) (k tag : ℕ) (msg : List ℕ) : Type 0 where
-  pub listed : ltb k (length (entriesOf (s .plan))) ≡ true
-  pub long : eqb (length msg) (lengthOf (expected (entryNumbered k s .ask .request))) ≡ true
-  pub inside : inWindow (entryNumbered k s) (startOf tag (s .plan .tag)) ≡ true
+pub data CameReply (s : Station) (k : ℕ) (out : List ℕ) : Replied → Type 0 where
+  refusal-reply : {r : Replied} (n : ℕ) → (n ≡ 0 → ⊥) → r ≡ refusedReply n out s → CameReply s k out r
+  took : {r : Replied} (flips : ℕ) (delay : ℤ) (m : List ℕ) → r ≡ record { number = 0; flips = flips; delay = delay; output = m; station = heard k m s } → CameReply s k out r
 
-pub data CameReply (s : Station) (k tag : ℕ) (msg out : List ℕ) : Replied → Type 0 where
-  refusal-reply : {r : Replied} (n : ℕ) → (n ≡ 0 → ⊥) → r ≡ refusedReply n out s → CameReply s k tag msg out r
-  took : {r : Replied} (flips : ℕ) (m : List ℕ) → Right s k tag msg → r ≡ record { number = 0; flips = flips; delay = delayOf (entryNumbered k s) (startOf tag (s .plan .tag)); output = m; station = heard k m s } → CameReply s k tag msg out r
-
-module _ (s : Station) (k tag : ℕ) (msg out : List ℕ) where
-  test-reply : (b : Bool) (n : ℕ) (y : Replied) → (b ≡ true → n ≡ 0 → ⊥) → (b ≡ false → CameReply s k tag msg out y) → CameReply s k tag msg out (pick b (refusedReply n out s) y)
+module _ (s : Station) (k : ℕ) (out : List ℕ) where
+  test-reply : (b : Bool) (n : ℕ) (y : Replied) → (b ≡ true → n ≡ 0 → ⊥) → (b ≡ false → CameReply s k out y) → CameReply s k out (pick b (refusedReply n out s) y)
   test-reply true n y z g = refusal-reply n (z refl) refl
   test-reply false n y z g = g refl
 
-  came-settled : (o : Outcome) → Right s k tag msg → CameReply s k tag msg out (settled k (startOf tag (s .plan .tag)) out o s)
+  came-settled : (start : ℕ) (o : Outcome) → CameReply s k out (settled k start out o s)
   unfolding settled
-  came-settled o right =
-      test-reply (not (eqb (o .number) 0)) (o .number) _ (λ t. eqb-false (o .number) 0 (not-true (eqb (o .number) 0) t)) (λ _. took (o .flips) (o .output) right refl)
+  came-settled start o =
+      test-reply (not (eqb (o .number) 0)) (o .number) _ (λ t. eqb-false (o .number) 0 (not-true (eqb (o .number) 0) t)) (λ _. took (o .flips) _ (o .output) refl)
 
-  pub came-reply : (marks : List ℕ) → CameReply s k tag msg out (replied s k tag msg marks out)
+  pub came-reply : (tag : ℕ) (msg marks : List ℕ) → CameReply s k out (replied s k tag msg marks out)
   unfolding replied
-  came-reply marks =
+  came-reply tag msg marks =
       test-reply (not (sized (length msg) (length marks) (length out))) 1 _ (numbered 1 refl)
       (λ _. test-reply (not (ltb k (length (entriesOf (s .plan))))) 7 _ (numbered 7 refl)
-      (λ a. test-reply (not (isOpen (entryNumbered k s .mark))) 8 _ (numbered 8 refl)
+      (λ _. test-reply (not (isOpen (entryNumbered k s .mark))) 8 _ (numbered 8 refl)
       (λ _. test-reply (not (eqb (length msg) (lengthOf (expected (entryNumbered k s .ask .request))))) 9 _ (numbered 9 refl)
-      (λ b. test-reply (not (inWindow (entryNumbered k s) (startOf tag (s .plan .tag)))) 10 _ (numbered 10 refl)
-      (λ c. came-settled (corrected k msg marks out s) (record { listed = not-false _ a; long = not-false _ b; inside = not-false _ c }))))))
+      (λ _. test-reply (not (inWindow (entryNumbered k s) (startOf tag (s .plan .tag)))) 10 _ (numbered 10 refl)
+      (λ _. came-settled (startOf tag (s .plan .tag)) (corrected k msg marks out s))))))
 
 -- what a reply's answer says of the station
 abbrev cut : Replied → Answer
@@ -104,11 +99,11 @@ came s (request q) =
     (λ h. test s (request q) (unitFull (q .unit) (s .waiting)) 6 _ (numbered 6 refl)
     (λ f. did-request q (not-false (requestRanged q) g) (not-false (inList (q .address) (s .targets)) h) f refl)))
 came s (plan tag) = did-plan tag refl
-came s (reply k tag msg marks out) = go (replied s k tag msg marks out) refl (came-reply s k tag msg out marks)
+came s (reply k tag msg marks out) = go (replied s k tag msg marks out) refl (came-reply s k out tag msg marks)
   where
-    go : (r : Replied) → replied s k tag msg marks out ≡ r → CameReply s k tag msg out r → Came s (reply k tag msg marks out) (cut (replied s k tag msg marks out))
+    go : (r : Replied) → replied s k tag msg marks out ≡ r → CameReply s k out r → Came s (reply k tag msg marks out) (cut (replied s k tag msg marks out))
     go r e (refusal-reply n z q) = refusal n z (ap cut (e ∙ q))
-    go r e (took flips m right q) = did-reply k tag msg marks out m (ap (λ (x : Replied). x .output) (e ∙ q)) (ap cut (e ∙ q))
+    go r e (took flips delay m q) = did-reply k tag msg marks out m (ap (λ (x : Replied). x .output) (e ∙ q)) (ap cut (e ∙ q))
 came s (report a) = go (not (anAddress a)) (not (inList a (s .targets)))
   where
     go : (b d : Bool) → Came s (report a) (record { number = pick {A = Report} b (refusedReport 2) (pick d (refusedReport 4) (record { number = 0; ac = targetAt a (s .targets) .ac; id = targetAt a (s .targets) .id })) .number; station = s })
@@ -135,8 +130,8 @@ refusal-changes-nothing s c n = go c (answer s c) n (came s c)
     go c r n (did-report a e) = absurd (no-done _ e n)
 
 pub refused-reply-writes-nothing : (s : Station) (k tag : ℕ) (msg marks out : List ℕ) → (replied s k tag msg marks out .number ≡ 0 → ⊥) → replied s k tag msg marks out .output ≡ out
-refused-reply-writes-nothing s k tag msg marks out n = go (replied s k tag msg marks out) n (came-reply s k tag msg out marks)
+refused-reply-writes-nothing s k tag msg marks out n = go (replied s k tag msg marks out) n (came-reply s k out tag msg marks)
   where
-    go : (r : Replied) → (r .number ≡ 0 → ⊥) → CameReply s k tag msg out r → r .output ≡ out
+    go : (r : Replied) → (r .number ≡ 0 → ⊥) → CameReply s k out r → r .output ≡ out
     go r n (refusal-reply j z e) = ap (λ (x : Replied). x .output) e
-    go r n (took flips m right e) = absurd (n (ap (λ (x : Replied). x .number) e))
+    go r n (took flips delay m e) = absurd (n (ap (λ (x : Replied). x .number) e))
