@@ -8,7 +8,8 @@ use lib.IntN.{pos}
 use Rattle.lists.specs.Lists.{pick}
 use Rattle.lists.specs.Checks.{given}
 use borrow.Author.Tests.{lt-ltb, le-ltb, eq-eqb, ne-eqb}
-use Rattle.altitude_code.specs.Code.{M, Q, group, feetBy25, feetBy100, Form, allZero, metric, by25, by100, illegal, formOf, readAs, altitude, numberOf, Answer, altitudeSaid, altitudeTold, isIllegal, codeChecks}
+use Rattle.altitude_code.specs.Code.{M, Q, group, feetBy25, feetBy100, Form, allZero, metric, by25, by100, illegal, formOf, readAs, altitude}
+use Rattle.altitude_code.specs.Code.{numberOf, Answer, altitudeSaid, altitudeTold, isIllegal, codeChecks}
 use Rattle.altitude_code.specs.declared.code.Altitude.{Altitude}
 use Rattle.altitude_code.specs.declared.code.Altitude.the-variants.{Feet, None, Metric, Range, Illegal}
 

@@ -74,7 +74,8 @@ module _ (uf pc rr di sd ma address : ℕ) (hr : selectiveRanged uf pc rr di sd 
   unfolding selective
   selective-parts =
       let r = selective-in uf pc rr di sd ma address hr in
-      frame-parts (selectiveHead uf pc rr di sd) ma (overlayOf address) (selective-lt uf pc rr di sd (surveillance-lt uf (r .format)) (omega arith) (omega arith) (omega arith) (omega arith)) (omega arith) (overlay-lt address)
+      frame-parts (selectiveHead uf pc rr di sd) ma (overlayOf address)
+      (selective-lt uf pc rr di sd (surveillance-lt uf (r .format)) (omega arith) (omega arith) (omega arith) (omega arith)) (omega arith) (overlay-lt address)
       (lengthOf uf) (whole-format uf) (long-or-zero uf ma (r .ma-is))
 
   pub read-selective : readUp (selective uf pc rr di sd ma address) ≡ done (uf ∷ pc ∷ rr ∷ di ∷ sd ∷ ma ∷ overlayOf address ∷ [])

@@ -78,7 +78,8 @@ pub record InSelective (uf pc rr di sd ma address : ℕ) : Type 0 where
 pub selective-in : (uf pc rr di sd ma a : ℕ) → selectiveRanged uf pc rr di sd ma a ≡ true → InSelective uf pc rr di sd ma a
 unfolding selectiveRanged
 selective-in uf pc rr di sd ma a h =
-    let t = and-true (surveillance uf && leb pc 7 && leb rr 31 && leb di 7 && leb sd 65535 && anAddress a) (eqb ma 0 || leb ma 0xFFFFFFFFFFFFFF && longFormat uf) h in
+    let t =
+    and-true (surveillance uf && leb pc 7 && leb rr 31 && leb di 7 && leb sd 65535 && anAddress a) (eqb ma 0 || leb ma 0xFFFFFFFFFFFFFF && longFormat uf) h in
     let u = and-true (surveillance uf && leb pc 7 && leb rr 31 && leb di 7 && leb sd 65535) (anAddress a) (t .0) in
     let v = and-true (surveillance uf && leb pc 7 && leb rr 31 && leb di 7) (leb sd 65535) (u .0) in
     let w = and-true (surveillance uf && leb pc 7 && leb rr 31) (leb di 7) (v .0) in

@@ -135,7 +135,8 @@ module _ (m : List ℕ) (h : AreBytes m) where
       go true e =
           let n = eqb-true (length m) 14 e in
           let l = length-drop 4 m in
-          let f = rw (length-take-le 7 (drop 4 m) (omega arith)) at (number-lt (take 7 (drop 4 m)) (all-take (λ b. b < 256) 7 (drop 4 m) (all-drop (λ b. b < 256) 4 m h))) in
+          let bytes = all-take (λ b. b < 256) 7 (drop 4 m) (all-drop (λ b. b < 256) 4 m h) in
+          let f = rw (length-take-le 7 (drop 4 m) (omega arith)) at (number-lt (take 7 (drop 4 m)) bytes) in
           omega (arith, f)
       go false e = omega arith
 

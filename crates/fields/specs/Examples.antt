@@ -49,8 +49,8 @@ built uf address = let o = building uf 0 0 0 0 (replicate 7 0) address (replicat
 abbrev ranged : ℕ → ℕ → ℕ → ℕ
 ranged uf rr ma = pick (selectiveRanged uf 7 rr 7 0xFFFF ma 1) 1 0
 
--- the published frames with every field given, codes of two of them, the MB bytes of one, the codes and what is drawn at the edges, the address of an overlay, and
--- refusals
+-- the published frames with every field given, codes of two of them, the MB bytes of one, the codes and what is drawn at the edges,
+-- the address of an overlay, and refusals
 abbrev pub listing : List Row
 listing =
     row (read sixth) (0 ∷ 11 ∷ 5 ∷ 0x484FDE ∷ 0x16 ∷ [])

@@ -48,7 +48,8 @@ pub taken-in-time : (cs : List Call) (k tag : ℕ) (msg marks out : List ℕ) �
     → InTime (entryNumbered k (after cs)) (startOf tag (after cs .plan .tag)) msg (replied (after cs) k tag msg marks out .delay)
 taken-in-time cs k tag msg marks out e =
     let t = right (after cs) k tag msg marks out e in
-    let entered = all-at (Entered (after cs .targets)) (entriesOf (after cs .plan)) noEntry k (always-kept cs .entries) (ltb-true k (length (entriesOf (after cs .plan))) (t .listed)) in
+    let l = ltb-true k (length (entriesOf (after cs .plan))) (t .listed) in
+    let entered = all-at (Entered (after cs .targets)) (entriesOf (after cs .plan)) noEntry k (always-kept cs .entries) l in
     rw (t .told) (in-time (entryNumbered k (after cs)) (startOf tag (after cs .plan .tag)) msg (entered .0) (t .long) (t .inside))
 
 -- ---- demand 3

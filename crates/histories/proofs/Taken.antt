@@ -47,4 +47,9 @@ module _ (s : Station) (k tag : ℕ) (msg marks out : List ℕ) where
       (λ _. check (not (eqb (length msg) (lengthOf (expected (entryNumbered k s .ask .request))))) 9 _ refl
       (λ b. check (not (inWindow (entryNumbered k s) (startOf tag (s .plan .tag)))) 10 _ refl
       (λ c. by-correction (corrected k msg marks out s)
-      (record { listed = not-false _ a; long = eqb-true (length msg) (lengthOf (expected (entryNumbered k s .ask .request))) (not-false _ b); inside = not-false _ c; told = refl }))))))
+      (record {
+        listed = not-false _ a;
+        long = eqb-true (length msg) (lengthOf (expected (entryNumbered k s .ask .request))) (not-false _ b);
+        inside = not-false _ c;
+        told = refl;
+      }))))))

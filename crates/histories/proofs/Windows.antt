@@ -84,7 +84,8 @@ pub as-long-as-drawn : (q : Request) → surveillance (q .uf) ≡ true → q .rr
 unfolding replyFor expected drawn
 as-long-as-drawn q h r = rw (h, le-leb (q .rr) 31 r) (go (leb 16 (q .rr)))
   where
-    go : (b : Bool) → pick b replyLong replyShort ≡ pick (eqb (lengthOf (formatIn (pick b (Format (shortReply (q .uf) + 16)) (Format (shortReply (q .uf)))))) 14) replyLong replyShort
+    go : (b : Bool)
+        → pick b replyLong replyShort ≡ pick (eqb (lengthOf (formatIn (pick b (Format (shortReply (q .uf) + 16)) (Format (shortReply (q .uf)))))) 14) replyLong replyShort
     go true = rw (each-format (q .uf) h .long)
     go false = rw (each-format (q .uf) h .short)
 
@@ -94,15 +95,17 @@ lasts-as-drawn : (q : Request) (msg : List ℕ) → requestRanged q ≡ true →
 lasts-as-drawn q msg h e = let g = request-in q h .1 in rw e (sym (as-long-as-drawn q (g .format) (g .rr-le)))
 
 -- a start within the entry's limits, of a message as long as the entry's reply
-pub in-time : (e : Entry) (s : ℕ) (msg : List ℕ) → requestRanged (e .ask .request) ≡ true → length msg ≡ lengthOf (expected (e .ask .request)) → inWindow e s ≡ true → InTime e s msg (delayOf e s)
+pub in-time : (e : Entry) (s : ℕ) (msg : List ℕ) → requestRanged (e .ask .request) ≡ true → length msg ≡ lengthOf (expected (e .ask .request))
+    → inWindow e s ≡ true → InTime e s msg (delayOf e s)
 in-time e s msg h l w =
     let in-it = in-listening e s w in
+    let at = e .start + 531 in
     let top : subℕ (e .ask .far + 1) 0 ≡ pos (e .ask .far + 1) = sub-nothing (e .ask .far + 1) in
     record {
       begins = in-it .0;
       ends = rw (lasts-as-drawn (e .ask .request) msg h l) (in-it .1);
       measured = delay-is e s;
-      minusOne = (λ d. difference-same s 0 (e .start + 531) 1 d ∙ zero-add (e .start + 531), λ d. same-difference s 0 (e .start + 531) 1 (d ∙ sym (zero-add (e .start + 531))));
+      minusOne = (λ d. difference-same s 0 at 1 d ∙ zero-add at, λ d. same-difference s 0 at 1 (d ∙ sym (zero-add at)));
       least = difference-le (e .ask .near) s 1 (e .start + 531) (omega (arith, in-it .0));
       most = rw top at (difference-le s (e .ask .far + 1) (e .start + 531) 0 (omega (arith, in-it .1)));
     }

@@ -57,4 +57,5 @@ pub number-at : (s : List ℕ) (place : ℕ) → toldAt s place .number ≡ give
 unfolding toldAt recordAt given
 number-at s place =
     rw (within (length s) place)
-    (number-by (leb (length s) place) (eqb (bodyLength (getD s place 0)) 0) (ltb (length s - (place + 1)) (bodyLength (getD s place 0))) (getD s place 0) (place + 1) (place + 1 + bodyLength (getD s place 0)))
+    (number-by (leb (length s) place) (eqb (bodyLength (getD s place 0)) 0) (ltb (length s - (place + 1)) (bodyLength (getD s place 0)))
+    (getD s place 0) (place + 1) (place + 1 + bodyLength (getD s place 0)))
