@@ -2,7 +2,7 @@
 ghost use mathlib.Core.Path.{_≡_};
 ghost use Prim.Native.Nat.{_+_, _*_, _≤_, _<_};
 ghost use lib.IntN.{subℕ};
-ghost use Rattle.altitude_code.specs.Code.{bitAt, eleven, eight, grayValue, fiveHundreds, group, hundreds, altitude, numberOf};
+ghost use Rattle.altitude_code.specs.Code.{bitAt, eleven, eight, grayValue, fiveHundreds, group, hundreds, numberOf, altitudeSaid, altitudeTold};
 use altitude_code::Altitude;
 
 // The places of AC's bits, the last being 0. Q's place is that of D1, which the 100 ft code leaves unused.
@@ -108,7 +108,7 @@ fn signed(up: u32, down: u32) -> i32
 
 // The altitude that AC says.
 pub fn read(ac: u32) -> Altitude
-    ensures { λ r. ⌜ r ≡ altitude ac ⌝ }
+    ensures { λ r. ⌜ altitudeSaid r ≡ altitudeTold ac ⌝ }
 {
     if 8191 < ac {
         return Altitude::Range;

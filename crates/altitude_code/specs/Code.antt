@@ -1,10 +1,12 @@
 -- The altitude code of Annex 10: what the 13 bits of AC say. The bits are, first the most significant,
 -- C1 A1 C2 A2 C4 A4 M B1 Q B2 D2 B4 D4.
 use Prim.Native.Nat.{ℕ, zero, suc, _+_, _-_, _*_, _/_, _%_, _^_}
-use mathlib.Core.List.{[], _∷_}
+use mathlib.Core.List.{List, [], _∷_}
+use mathlib.Core.Bool.{Bool, true, false}
 use lib.Dec.{eqb, ltb}
 use lib.IntN.{ℤ, subℕ}
 use Rattle.lists.specs.Lists.{pick, spelled}
+use Rattle.lists.specs.Checks.{Check, check}
 use Rattle.altitude_code.specs.declared.code.Altitude.{Altitude}
 use Rattle.altitude_code.specs.declared.code.Altitude.the-variants.{Feet, None, Metric, Range, Illegal}
 
@@ -138,3 +140,41 @@ numberOf None = 0
 numberOf Metric = 0
 numberOf Range = 2
 numberOf Illegal = 18
+
+-- ---- what is answered
+-- the number given back, the feet, and the name of what has none: 0 for no altitude, 1 for metric
+pub record Answer : Type 0 where
+  pub number : ℕ
+  pub feet : List ℤ
+  pub named : List ℕ
+
+abbrev pub feetOf : Altitude → List ℤ
+feetOf (Feet z) = z ∷ []
+feetOf None = []
+feetOf Metric = []
+feetOf Range = []
+feetOf Illegal = []
+
+abbrev pub nameOf : Altitude → List ℕ
+nameOf (Feet z) = []
+nameOf None = 0 ∷ []
+nameOf Metric = 1 ∷ []
+nameOf Range = []
+nameOf Illegal = []
+
+abbrev pub altitudeSaid : Altitude → Answer
+altitudeSaid a = record { number = numberOf a; feet = feetOf a; named = nameOf a }
+
+unfoldable pub altitudeTold : ℕ → Answer
+altitudeTold ac = altitudeSaid (altitude ac)
+
+-- the lines that a code can meet: "a number outside its range"; "an altitude pattern that the 100 ft code does not have"
+abbrev pub isIllegal : Form → Bool
+isIllegal allZero = false
+isIllegal metric = false
+isIllegal by25 = false
+isIllegal by100 = false
+isIllegal illegal = true
+
+abbrev pub codeChecks : ℕ → List Check
+codeChecks ac = check 2 (ltb 8191 ac) ∷ check 18 (isIllegal (formOf ac)) ∷ []

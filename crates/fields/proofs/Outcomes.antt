@@ -4,14 +4,13 @@ use mathlib.Core.Path.{_≡_, refl, sym, ap, _∙_}
 use mathlib.Core.Bool.{Bool, true, false, _&&_, _||_}
 use mathlib.Core.List.{List, [], _∷_}
 use mathlib.Core.Logic.{_⊎_, inl, inr}
-use Prim.Native.Nat.{ℕ, _*_, _^_, _<_}
+use Prim.Native.Nat.{ℕ}
 use native.Mathlib.Omega.{arith}
 use lib.Dec.{eqb}
 use lib.ListN.{length}
-use borrow.Author.Tests.{eq-eqb, eqb-true}
+use borrow.Author.Tests.{eq-eqb}
 use Rattle.lists.specs.Lists.{pick}
-use Rattle.lists.proofs.Tests.{and-true}
-use Rattle.remainders.specs.Messages.{bits, whole, AreBytes}
+use Rattle.remainders.specs.Messages.{bits, whole}
 use Rattle.remainders.specs.Division.{remainderOf}
 use Rattle.remainders.specs.Overlays.{overlayOf}
 use Rattle.remainders.proofs.Laws.{overlay-lt}
@@ -30,7 +29,6 @@ use Rattle.fields.specs.Shared.{codeNumber}
 use Rattle.fields.proofs.Heads.{selective-lt, selective-format, selective-fields, all-call-lt, all-call-format, all-call-fields, reply-lt, reply-format, reply-fields, all-call-reply-lt, all-call-reply-format, all-call-reply-fields}
 use Rattle.fields.proofs.Invert.{address-back}
 use Rattle.fields.proofs.Judging.{reads-eleven, reads-others, same, code-whose}
-use Rattle.fields.proofs.Numbers.{number-lt}
 use Rattle.fields.proofs.Ranges.{surveillance-is, surveillance-lt, whole-format, selective-in, all-call-in, reply-in, all-call-reply-in}
 use Rattle.fields.proofs.Sealing.{Parts, frame-parts}
 
@@ -71,20 +69,21 @@ module _ (eleven : ℕ → ℕ → Answer) (others : ℕ → ℕ → ℕ → Ans
       reads-eleven eleven others m (ap whole (p .length-is)) l q ∙ same (λ (a b c : ℕ). eleven a c) _ _ 0 0 _ _ (p .head-is) refl (p .remainder-is)
 
 -- ---- interrogations
-module _ (uf pc rr di sd ma address : ℕ) (hf : surveillance uf ≡ true) (hr : selectiveRanged uf pc rr di sd ma address ≡ true) (hm : ma < 72057594037927936) where
+module _ (uf pc rr di sd ma address : ℕ) (hr : selectiveRanged uf pc rr di sd ma address ≡ true) where
   pub selective-parts : Parts (lengthOf uf) (selectiveHead uf pc rr di sd) ma (overlayOf address) (selective uf pc rr di sd ma address)
   unfolding selective
   selective-parts =
       let r = selective-in uf pc rr di sd ma address hr in
-      frame-parts (selectiveHead uf pc rr di sd) ma (overlayOf address) (selective-lt uf pc rr di sd (surveillance-lt uf hf) (omega arith) (omega arith) (omega arith) (omega arith)) hm (overlay-lt address)
+      frame-parts (selectiveHead uf pc rr di sd) ma (overlayOf address)
+      (selective-lt uf pc rr di sd (surveillance-lt uf (r .format)) (omega arith) (omega arith) (omega arith) (omega arith)) (omega arith) (overlay-lt address)
       (lengthOf uf) (whole-format uf) (long-or-zero uf ma (r .ma-is))
 
   pub read-selective : readUp (selective uf pc rr di sd ma address) ≡ done (uf ∷ pc ∷ rr ∷ di ∷ sd ∷ ma ∷ overlayOf address ∷ [])
   read-selective =
       let r = selective-in uf pc rr di sd ma address hr in
-      surveillance-reads allCallRead selectiveRead (selectiveHead uf pc rr di sd) ma (overlayOf address) (selective uf pc rr di sd ma address) uf hf
-      (selective-format uf pc rr di sd (surveillance-lt uf hf) (omega arith) (omega arith) (omega arith) (omega arith)) selective-parts
-      ∙ selective-fields uf pc rr di sd (surveillance-lt uf hf) (omega arith) (omega arith) (omega arith) (omega arith) ma (overlayOf address)
+      surveillance-reads allCallRead selectiveRead (selectiveHead uf pc rr di sd) ma (overlayOf address) (selective uf pc rr di sd ma address) uf (r .format)
+      (selective-format uf pc rr di sd (surveillance-lt uf (r .format)) (omega arith) (omega arith) (omega arith) (omega arith)) selective-parts
+      ∙ selective-fields uf pc rr di sd (surveillance-lt uf (r .format)) (omega arith) (omega arith) (omega arith) (omega arith) ma (overlayOf address)
 
   -- the address is found again in the frame
   pub selective-address : addressOf (remainderOf (bits (selective uf pc rr di sd ma address))) ≡ Is address
@@ -159,16 +158,14 @@ two-passed false c x out e = absurd (omega arith)
 zero-number : (b : Built) (out′ : List ℕ) (o : Outcome) → said b out′ ≡ o → b ≡ Done → o .number ≡ 0
 zero-number b out′ o e d = sym (ap (λ (x : Outcome). x .number) e) ∙ ap numberOfBuilt d
 
-pub build-reads : (uf pc rr di sd : ℕ) (ma : List ℕ) (address : ℕ) (out out′ : List ℕ) (b : Built) → AreBytes ma
+pub build-reads : (uf pc rr di sd : ℕ) (ma : List ℕ) (address : ℕ) (out out′ : List ℕ) (b : Built)
     → said b out′ ≡ building uf pc rr di sd ma address out → b ≡ Done
     → readUp out′ ≡ done (uf ∷ pc ∷ rr ∷ di ∷ sd ∷ numberOf ma ∷ overlayOf address ∷ [])
 unfolding building
-build-reads uf pc rr di sd ma address out out′ b hm e d =
+build-reads uf pc rr di sd ma address out out′ b e d =
     let p = three-passed (surveillance uf) (eqb (length out) (lengthOf uf) && eqb (length ma) 7) (selectiveRanged uf pc rr di sd (numberOf ma) address) (selective uf pc rr di sd (numberOf ma) address) out (zero-number b out′ _ e d) in
-    let n : length ma ≡ 7 = eqb-true (length ma) 7 (and-true (eqb (length out) (lengthOf uf)) (eqb (length ma) 7) (p .1) .1) in
-    let l : numberOf ma < 2 ^ (8 * 7) = rw n at (number-lt ma hm) in
     let o : out′ ≡ selective uf pc rr di sd (numberOf ma) address = rw (p .0, p .1, p .2) at (ap (λ (x : Outcome). x .output) e) in
-    ap readUp o ∙ read-selective uf pc rr di sd (numberOf ma) address (p .0) (p .2) l
+    ap readUp o ∙ read-selective uf pc rr di sd (numberOf ma) address (p .2)
 
 pub all-call-built-reads : (pr ic cl : ℕ) (out out′ : List ℕ) (b : Built) → said b out′ ≡ allCalling pr ic cl out → b ≡ Done
     → readUp out′ ≡ done (11 ∷ pr ∷ ic ∷ cl ∷ overlayOf 0xFFFFFF ∷ [])

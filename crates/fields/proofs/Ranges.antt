@@ -57,34 +57,45 @@ whole-format f = go (longFormat f)
 pub address-in : (a : ℕ) → anAddress a ≡ true → (1 ≤ a) × (a ≤ 16777214)
 address-in a h = let t = and-true (leb 1 a) (leb a 16777214) h in (leb-true 1 a (t .0), leb-true a 16777214 (t .1))
 
+-- MA or MB: zero, or of 56 bits in a long format
+number-in : (f n : ℕ) → eqb n 0 || leb n 0xFFFFFFFFFFFFFF && longFormat f ≡ true → (n ≤ 0xFFFFFFFFFFFFFF) × ((n ≡ 0) ⊎ (longFormat f ≡ true))
+number-in f n h = go (or-true (eqb n 0) (leb n 0xFFFFFFFFFFFFFF && longFormat f) h)
+  where
+    go : (eqb n 0 ≡ true) ⊎ (leb n 0xFFFFFFFFFFFFFF && longFormat f ≡ true) → (n ≤ 0xFFFFFFFFFFFFFF) × ((n ≡ 0) ⊎ (longFormat f ≡ true))
+    go (inl e) = let z = eqb-true n 0 e in (omega arith, inl z)
+    go (inr e) = let t = and-true (leb n 0xFFFFFFFFFFFFFF) (longFormat f) e in (leb-true n 0xFFFFFFFFFFFFFF (t .0), inr (t .1))
+
 pub record InSelective (uf pc rr di sd ma address : ℕ) : Type 0 where
+  pub format : surveillance uf ≡ true
   pub pc-le : pc ≤ 7
   pub rr-le : rr ≤ 31
   pub di-le : di ≤ 7
   pub sd-le : sd ≤ 65535
   pub address-is : (1 ≤ address) × (address ≤ 16777214)
+  pub ma-le : ma ≤ 0xFFFFFFFFFFFFFF
   pub ma-is : (ma ≡ 0) ⊎ (longFormat uf ≡ true)
 
 pub selective-in : (uf pc rr di sd ma a : ℕ) → selectiveRanged uf pc rr di sd ma a ≡ true → InSelective uf pc rr di sd ma a
 unfolding selectiveRanged
 selective-in uf pc rr di sd ma a h =
-    let t = and-true (leb pc 7 && leb rr 31 && leb di 7 && leb sd 65535 && anAddress a) (eqb ma 0 || longFormat uf) h in
-    let u = and-true (leb pc 7 && leb rr 31 && leb di 7 && leb sd 65535) (anAddress a) (t .0) in
-    let v = and-true (leb pc 7 && leb rr 31 && leb di 7) (leb sd 65535) (u .0) in
-    let w = and-true (leb pc 7 && leb rr 31) (leb di 7) (v .0) in
-    let x = and-true (leb pc 7) (leb rr 31) (w .0) in
+    let t =
+    and-true (surveillance uf && leb pc 7 && leb rr 31 && leb di 7 && leb sd 65535 && anAddress a) (eqb ma 0 || leb ma 0xFFFFFFFFFFFFFF && longFormat uf) h in
+    let u = and-true (surveillance uf && leb pc 7 && leb rr 31 && leb di 7 && leb sd 65535) (anAddress a) (t .0) in
+    let v = and-true (surveillance uf && leb pc 7 && leb rr 31 && leb di 7) (leb sd 65535) (u .0) in
+    let w = and-true (surveillance uf && leb pc 7 && leb rr 31) (leb di 7) (v .0) in
+    let x = and-true (surveillance uf && leb pc 7) (leb rr 31) (w .0) in
+    let y = and-true (surveillance uf) (leb pc 7) (x .0) in
+    let m = number-in uf ma (t .1) in
     record {
-      pc-le = leb-true pc 7 (x .0);
+      format = y .0;
+      pc-le = leb-true pc 7 (y .1);
       rr-le = leb-true rr 31 (x .1);
       di-le = leb-true di 7 (w .1);
       sd-le = leb-true sd 65535 (v .1);
       address-is = address-in a (u .1);
-      ma-is = go (or-true (eqb ma 0) (longFormat uf) (t .1));
+      ma-le = m .0;
+      ma-is = m .1;
     }
-  where
-    go : (eqb ma 0 ≡ true) ⊎ (longFormat uf ≡ true) → (ma ≡ 0) ⊎ (longFormat uf ≡ true)
-    go (inl e) = inl (eqb-true ma 0 e)
-    go (inr e) = inr e
 
 pub all-call-in : (pr ic cl : ℕ) → allCallRanged pr ic cl ≡ true → (pr ≤ 15) × (ic ≤ 15) × (cl ≤ 7)
 unfolding allCallRanged
@@ -110,7 +121,7 @@ reply-in df fs dr um value mb a h =
     let v = and-true (leb fs 7 && leb dr 31 && leb um 63) (leb value 8191) (u .0) in
     let w = and-true (leb fs 7 && leb dr 31) (leb um 63) (v .0) in
     let x = and-true (leb fs 7) (leb dr 31) (w .0) in
-    let m = go (or-true (eqb mb 0) (leb mb 0xFFFFFFFFFFFFFF && longFormat df) (t .1)) in
+    let m = number-in df mb (t .1) in
     record {
       fs-le = leb-true fs 7 (x .0);
       dr-le = leb-true dr 31 (x .1);
@@ -120,10 +131,6 @@ reply-in df fs dr um value mb a h =
       mb-le = m .0;
       mb-is = m .1;
     }
-  where
-    go : (eqb mb 0 ≡ true) ⊎ (leb mb 0xFFFFFFFFFFFFFF && longFormat df ≡ true) → (mb ≤ 0xFFFFFFFFFFFFFF) × ((mb ≡ 0) ⊎ (longFormat df ≡ true))
-    go (inl e) = let z = eqb-true mb 0 e in (omega arith, inl z)
-    go (inr e) = let t = and-true (leb mb 0xFFFFFFFFFFFFFF) (longFormat df) e in (leb-true mb 0xFFFFFFFFFFFFFF (t .0), inr (t .1))
 
 pub all-call-reply-in : (ca a cl ic : ℕ) → allCallReplyRanged ca a cl ic ≡ true → (ca ≤ 7) × ((1 ≤ a) × (a ≤ 16777214)) × (cl ≤ 7) × (ic ≤ 15)
 unfolding allCallReplyRanged

@@ -1,16 +1,16 @@
 -- Building from what was read of a frame gives the same bytes.
 -- Assumes nothing.
 use mathlib.Core.Path.{_≡_, refl, sym, ap, _∙_}
-use mathlib.Core.Bool.{Bool, true, false, _||_}
+use mathlib.Core.Bool.{Bool, true, false, _||_, _&&_}
 use mathlib.Core.List.{List, [], _∷_}
 use mathlib.Core.Logic.{_⊎_, inl, inr}
 use Prim.Native.Nat.{ℕ, _+_, _%_, _<_, _≤_}
 use native.Mathlib.Omega.{arith}
-use lib.Dec.{eqb}
+use lib.Dec.{eqb, leb}
 use lib.ListN.{length, getD}
 use borrow.Author.Tests.{eqb-true, eq-eqb, le-leb}
 use Rattle.lists.specs.Lists.{pick}
-use Rattle.lists.proofs.Tests.{and-true}
+use Rattle.lists.proofs.Tests.{and-true, and-yes}
 use Rattle.remainders.specs.Messages.{bits, whole, AreBytes}
 use Rattle.remainders.specs.Division.{remainderOf}
 use Rattle.remainders.specs.Overlays.{overlayOf}
@@ -25,7 +25,7 @@ use Rattle.fields.specs.Shared.{codeNumber}
 use Rattle.fields.proofs.Heads.{selective-again, all-call-again, reply-again, all-call-reply-again}
 use Rattle.fields.proofs.Laying.{whole-least}
 use Rattle.fields.proofs.Ranges.{surveillance-is}
-use Rattle.fields.proofs.Sealing.{same-frame, head-lt}
+use Rattle.fields.proofs.Sealing.{same-frame, head-lt, mid-le}
 
 -- ---- what a reading says of the message
 pub data Read (eleven : ℕ → ℕ → Answer) (others : ℕ → ℕ → ℕ → Answer) (m : List ℕ) : Answer → Type 0 where
@@ -128,21 +128,24 @@ module _ (m : List ℕ) (h : AreBytes m) (uf pc rr di sd ma r : ℕ) where
         same-head : Selective → selectiveHead uf pc rr di sd ≡ selectiveHead (valueAt atUF (headOf m)) (valueAt atPC (headOf m)) (valueAt atRR (headOf m)) (valueAt atDI (headOf m)) (valueAt atSD (headOf m))
         same-head s = cc (s .at-uf, s .at-pc, s .at-rr, s .at-di, s .at-sd)
 
-    zero-or-long : Selective → eqb ma 0 || longFormat uf ≡ true
+    zero-or-long : Selective → eqb ma 0 || leb ma 0xFFFFFFFFFFFFFF && longFormat uf ≡ true
     zero-or-long s = go (surveillance-is uf (s .format-is))
       where
-        short : length m ≡ 7 → eqb ma 0 || longFormat uf ≡ true
+        short : length m ≡ 7 → eqb ma 0 || leb ma 0xFFFFFFFFFFFFFF && longFormat uf ≡ true
         short l = rw (eq-eqb ma 0 (s .ma-is ∙ short-mid m l))
 
-        long : (a b : Bool) → b ≡ true → a || b ≡ true
-        long true b q = refl
-        long false b q = q
+        long : (a b c : Bool) → b ≡ true → c ≡ true → a || b && c ≡ true
+        long true b c p q = refl
+        long false b c p q = and-yes b c p q
 
-        go : ((uf ≡ 4) ⊎ (uf ≡ 5)) ⊎ ((uf ≡ 20) ⊎ (uf ≡ 21)) → eqb ma 0 || longFormat uf ≡ true
+        fits : leb ma 0xFFFFFFFFFFFFFF ≡ true
+        fits = le-leb ma 0xFFFFFFFFFFFFFF (omega (arith, mid-le m h, s .ma-is))
+
+        go : ((uf ≡ 4) ⊎ (uf ≡ 5)) ⊎ ((uf ≡ 20) ⊎ (uf ≡ 21)) → eqb ma 0 || leb ma 0xFFFFFFFFFFFFFF && longFormat uf ≡ true
         go (inl (inl q)) = short (s .length-is ∙ ap lengthOf q)
         go (inl (inr q)) = short (s .length-is ∙ ap lengthOf q)
-        go (inr (inl q)) = long (eqb ma 0) (longFormat uf) (ap longFormat q)
-        go (inr (inr q)) = long (eqb ma 0) (longFormat uf) (ap longFormat q)
+        go (inr (inl q)) = long (eqb ma 0) (leb ma 0xFFFFFFFFFFFFFF) (longFormat uf) fits (ap longFormat q)
+        go (inr (inr q)) = long (eqb ma 0) (leb ma 0xFFFFFFFFFFFFFF) (longFormat uf) fits (ap longFormat q)
 
     -- the builder, given the values that were read, writes the same bytes
     pub build-again : (seven out : List ℕ) → length seven ≡ 7 → numberOf seven ≡ ma → length out ≡ length m → 1 ≤ address → address ≤ 16777214
@@ -151,8 +154,8 @@ module _ (m : List ℕ) (h : AreBytes m) (uf pc rr di sd ma r : ℕ) where
     build-again seven out l n k low high =
         let s = selective-of e in
         let t : selectiveRanged uf pc rr di sd (numberOf seven) address ≡ true =
-        rw (n, le-leb pc 7 (omega (arith, s .at-pc)), le-leb rr 31 (omega (arith, s .at-rr)), le-leb di 7 (omega (arith, s .at-di)), le-leb sd 65535 (omega (arith, s .at-sd)), le-leb 1 address low, le-leb address 16777214 high) (zero-or-long s) in
-        rw (s .format-is, eq-eqb (length out) (lengthOf uf) (k ∙ s .length-is), eq-eqb (length seven) 7 l, t, n) (ap written selective-rebuilt)
+        rw (n, s .format-is, le-leb pc 7 (omega (arith, s .at-pc)), le-leb rr 31 (omega (arith, s .at-rr)), le-leb di 7 (omega (arith, s .at-di)), le-leb sd 65535 (omega (arith, s .at-sd)), le-leb 1 address low, le-leb address 16777214 high) (zero-or-long s) in
+        rw (t, s .format-is, eq-eqb (length out) (lengthOf uf) (k ∙ s .length-is), eq-eqb (length seven) 7 l, n) (ap written selective-rebuilt)
 
 -- ---- UF 11, up to bits 17 to 32
 module _ (m : List ℕ) (h : AreBytes m) (pr ic cl r : ℕ) (e : readUp m ≡ done (11 ∷ pr ∷ ic ∷ cl ∷ r ∷ [])) where

@@ -10,6 +10,7 @@ use lib.Bits.{bitXor, xor-lt}
 use lib.Dec.{eqb}
 use lib.ListN.{length, take, drop, take-append-drop, length-drop}
 use lib.Seq.{length-take-le, take-add}
+use borrow.Author.Tests.{eqb-true}
 use Rattle.lists.specs.Lists.{pick, All}
 use Rattle.lists.proofs.Xor.{xor-back}
 use Rattle.lists.proofs.Held.{all-append, all-take, all-drop}
@@ -125,6 +126,19 @@ module _ (m : List ℕ) (h : AreBytes m) where
   pub head-lt : 4 ≤ length m → headOf m < 4294967296
   unfolding headOf
   head-lt l = rw (length-take-le 4 m l) at (number-lt (take 4 m) (all-take (λ b. b < 256) 4 m h))
+
+  pub mid-le : midOf m ≤ 0xFFFFFFFFFFFFFF
+  unfolding midOf
+  mid-le = go (eqb (length m) 14) refl
+    where
+      go : (b : Bool) → eqb (length m) 14 ≡ b → pick b (numberOf (take 7 (drop 4 m))) 0 ≤ 0xFFFFFFFFFFFFFF
+      go true e =
+          let n = eqb-true (length m) 14 e in
+          let l = length-drop 4 m in
+          let bytes = all-take (λ b. b < 256) 7 (drop 4 m) (all-drop (λ b. b < 256) 4 m h) in
+          let f = rw (length-take-le 7 (drop 4 m) (omega arith)) at (number-lt (take 7 (drop 4 m)) bytes) in
+          omega (arith, f)
+      go false e = omega arith
 
 -- ---- a frame is bytes
 pub frame-bytes : (n head mid overlay : ℕ) → AreBytes (framed n head mid overlay)

@@ -20,8 +20,13 @@ use Rattle.fields.specs.declared.answers.Code.{Code}
 use Rattle.fields.specs.declared.answers.Code.the-variants as code
 use Rattle.fields.specs.declared.answers.Interrogator.{Interrogator}
 use Rattle.fields.specs.declared.answers.Interrogator.the-variants.{II, SI, Nobody}
-use Rattle.fields.specs.Answers.{Outcome, Answer, said, upSaid, downSaid, codeSaid}
-use Rattle.fields.specs.Shared.{ofSI, siNumber, codeFor}
+use Rattle.fields.specs.declared.answers.Draws.{Draws}
+use Rattle.fields.specs.declared.answers.Draws.the-variants as draws
+use Rattle.fields.specs.declared.answers.Address.{Address}
+use Rattle.fields.specs.declared.answers.Address.the-variants as address
+use Rattle.fields.specs.Answers.{Outcome, Answer, said, upSaid, downSaid, codeSaid, interrogatorSaid, drawsSaid, addressSaid}
+use Rattle.fields.specs.Shared.{ofSI, siNumber, codeFor, codeTold, drawn, drawnTold}
+use Rattle.fields.specs.Addresses.{addressOf, addressTold}
 
 -- ---- builders
 builtBy : Outcome → Built
@@ -91,6 +96,53 @@ code-back code.Format = refl
 
 pub code-one : (a b : Code) → codeSaid a ≡ codeSaid b → a ≡ b
 code-one a b e = sym (code-back a) ∙ ap codeBy e ∙ code-back b
+
+-- no value or two: a code; no value or one: a format, an address
+interrogatorBy : Answer → Interrogator
+interrogatorBy a = pick (eqb (length (a .values)) 2) (pick (eqb (at a 0) 0) (II (at a 1)) (SI (at a 1))) Nobody
+
+interrogator-back : (x : Interrogator) → interrogatorBy (interrogatorSaid x) ≡ x
+unfolding interrogatorBy at
+interrogator-back (II n) = refl
+interrogator-back (SI n) = refl
+interrogator-back Nobody = refl
+
+pub interrogator-one : (a b : Interrogator) → interrogatorSaid a ≡ interrogatorSaid b → a ≡ b
+interrogator-one a b e = sym (interrogator-back a) ∙ ap interrogatorBy e ∙ interrogator-back b
+
+pub code-is : (cl ic : ℕ) (x : Interrogator) → interrogatorSaid x ≡ codeTold cl ic → x ≡ codeFor cl ic
+unfolding codeTold
+code-is cl ic x e = interrogator-one x (codeFor cl ic) e
+
+drawsBy : Answer → Draws
+drawsBy a = pick (eqb (length (a .values)) 1) (draws.Format (at a 0)) draws.Nothing
+
+draws-back : (x : Draws) → drawsBy (drawsSaid x) ≡ x
+unfolding drawsBy at
+draws-back (draws.Format f) = refl
+draws-back draws.Nothing = refl
+
+pub draws-one : (a b : Draws) → drawsSaid a ≡ drawsSaid b → a ≡ b
+draws-one a b e = sym (draws-back a) ∙ ap drawsBy e ∙ draws-back b
+
+pub drawn-is : (uf rr : ℕ) (x : Draws) → drawsSaid x ≡ drawnTold uf rr → x ≡ drawn uf rr
+unfolding drawnTold
+drawn-is uf rr x e = draws-one x (drawn uf rr) e
+
+addressBy : Answer → Address
+addressBy a = pick (eqb (length (a .values)) 1) (address.Is (at a 0)) address.Nobody
+
+address-back : (x : Address) → addressBy (addressSaid x) ≡ x
+unfolding addressBy at
+address-back (address.Is a) = refl
+address-back address.Nobody = refl
+
+pub address-one : (a b : Address) → addressSaid a ≡ addressSaid b → a ≡ b
+address-one a b e = sym (address-back a) ∙ ap addressBy e ∙ address-back b
+
+pub address-is : (remainder : ℕ) (x : Address) → addressSaid x ≡ addressTold remainder → x ≡ addressOf remainder
+unfolding addressTold
+address-is remainder x e = address-one x (addressOf remainder) e
 
 -- ---- codes
 -- "an SI lockout that also locks the II of equal number": they are two codes

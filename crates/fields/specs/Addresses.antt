@@ -8,6 +8,7 @@ use Rattle.lists.specs.Lists.{pick, spelled}
 use Rattle.remainders.specs.Division.{shiftIn}
 use Rattle.fields.specs.declared.answers.Address.{Address}
 use Rattle.fields.specs.declared.answers.Address.the-variants.{Is, Nobody}
+use Rattle.fields.specs.Answers.{Answer, addressSaid}
 
 -- the next n coefficients of the quotient, when the long division has r left: 1 where x^24 stands in r times x
 unfoldable pub quotientBits : ℕ → ℕ → List ℕ
@@ -21,3 +22,6 @@ quotientOf r = spelled 0 (quotientBits 24 r)
 -- the number of 24 bits whose uplink overlay this is, and nobody's above 24 bits; proofs/Invert.antt shows that it is, and the only one
 unfoldable pub addressOf : ℕ → Address
 addressOf remainder = pick (ltb remainder 0x1000000) (Is (quotientOf remainder)) Nobody
+
+unfoldable pub addressTold : ℕ → Answer
+addressTold remainder = addressSaid (addressOf remainder)

@@ -10,6 +10,12 @@ use Rattle.fields.specs.declared.answers.Down.{Down}
 use Rattle.fields.specs.declared.answers.Down.the-variants as down
 use Rattle.fields.specs.declared.answers.Code.{Code}
 use Rattle.fields.specs.declared.answers.Code.the-variants as code
+use Rattle.fields.specs.declared.answers.Interrogator.{Interrogator}
+use Rattle.fields.specs.declared.answers.Interrogator.the-variants as interrogator
+use Rattle.fields.specs.declared.answers.Draws.{Draws}
+use Rattle.fields.specs.declared.answers.Draws.the-variants as draws
+use Rattle.fields.specs.declared.answers.Address.{Address}
+use Rattle.fields.specs.declared.answers.Address.the-variants as address
 
 -- ---- a call that builds
 -- the number given back, and what the output buffer then holds
@@ -80,3 +86,19 @@ codeSaid code.Other = done other
 codeSaid code.Length = refusal 1
 codeSaid code.Range = refusal 2
 codeSaid code.Format = refusal 14
+
+-- the code that CL and IC stand for: 0 and n for II n, 1 and n for SI n, no value for nobody
+abbrev pub interrogatorSaid : Interrogator → Answer
+interrogatorSaid (interrogator.II n) = done (0 ∷ n ∷ [])
+interrogatorSaid (interrogator.SI n) = done (1 ∷ n ∷ [])
+interrogatorSaid interrogator.Nobody = done []
+
+-- what a request draws: the DF of its reply, or no value
+abbrev pub drawsSaid : Draws → Answer
+drawsSaid (draws.Format f) = done (f ∷ [])
+drawsSaid draws.Nothing = done []
+
+-- whose overlay a remainder is: the address, or no value
+abbrev pub addressSaid : Address → Answer
+addressSaid (address.Is a) = done (a ∷ [])
+addressSaid address.Nobody = done []

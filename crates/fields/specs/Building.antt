@@ -18,10 +18,10 @@ use Rattle.fields.specs.Shared.{codeNumber}
 abbrev pub anAddress : ℕ → Bool
 anAddress a = leb 1 a && leb a 16777214
 
--- "PC, DI 0 to 7; RR 0 to 31; SD 16 bits .. MA zero for 4 and 5"
+-- "UF of a request 4, 5, 20 or 21, with MA zero for 4 and 5", else of 56 bits; "PC, DI 0 to 7; RR 0 to 31; SD 16 bits"; an address
 unfoldable pub selectiveRanged : ℕ → ℕ → ℕ → ℕ → ℕ → ℕ → ℕ → Bool
 selectiveRanged uf pc rr di sd ma address =
-    leb pc 7 && leb rr 31 && leb di 7 && leb sd 65535 && anAddress address && (eqb ma 0 || longFormat uf)
+    surveillance uf && leb pc 7 && leb rr 31 && leb di 7 && leb sd 65535 && anAddress address && (eqb ma 0 || leb ma 0xFFFFFFFFFFFFFF && longFormat uf)
 
 -- "IC, PR .. 0 to 15; CL .. 0 to 7"
 unfoldable pub allCallRanged : ℕ → ℕ → ℕ → Bool
@@ -45,7 +45,7 @@ selective uf pc rr di sd ma address = framed (lengthOf uf) (selectiveHead uf pc 
 unfoldable pub allCall : ℕ → ℕ → ℕ → List ℕ
 allCall pr ic cl = framed 7 (allCallHead pr ic cl) 0 (overlayOf 0xFFFFFF)
 
--- UF is judged first, then the lengths of the output buffer and of MA, then the ranges
+-- UF is judged first, then the lengths of the output buffer and of MA, then all the ranges
 unfoldable pub building : ℕ → ℕ → ℕ → ℕ → ℕ → List ℕ → ℕ → List ℕ → Outcome
 building uf pc rr di sd ma address out =
     pick (surveillance uf)

@@ -4,17 +4,15 @@ use Prim.Native.Nat.{ℕ}
 use mathlib.Core.Path.{refl}
 use mathlib.Core.List.{List, [], _∷_}
 use lib.ListN.{replicate}
+use Rattle.lists.specs.Lists.{pick}
 use Rattle.lists.specs.Listing.{Row, row, Agrees}
 use Rattle.remainders.specs.Messages.{bits}
 use Rattle.remainders.specs.Division.{shiftIn, divide, remainderOf}
 use Rattle.fields.specs.Fields.{headOf, midOf}
-use Rattle.fields.specs.declared.answers.Draws.{Draws}
-use Rattle.fields.specs.declared.answers.Draws.the-variants.{Format, Nothing}
-use Rattle.fields.specs.declared.answers.Interrogator.{Interrogator}
-use Rattle.fields.specs.declared.answers.Interrogator.the-variants.{II, SI, Nobody}
 use Rattle.fields.specs.Building.{selectiveRanged, building}
 use Rattle.fields.specs.Reading.{readAs, readDown, surveillanceRead, allCallReplyRead, mbPart}
-use Rattle.fields.specs.Shared.{codeFor, drawn}
+use Rattle.fields.specs.Shared.{codeFor, codeTold, drawn, drawnTold}
+use Rattle.fields.specs.Addresses.{quotientBits, quotientOf, addressOf, addressTold}
 use Rattle.fields.specs.Codes.{whose, codeOf}
 
 -- a reply read alone: its number, then its values
@@ -36,22 +34,23 @@ second = 0x5D ∷ 0x48 ∷ 0x4F ∷ 0xDE ∷ 0xA2 ∷ 0x48 ∷ 0xE5 ∷ []
 abbrev squitter : List ℕ
 squitter = 0x5D ∷ 0x3C ∷ 0x66 ∷ 0x14 ∷ 0xC3 ∷ 0x15 ∷ 0xD2 ∷ []
 
--- the code that CL and IC stand for: II n as 0 and n, SI n as 1 and n, nothing for nobody
-abbrev code : Interrogator → List ℕ
-code (II n) = 0 ∷ n ∷ []
-code (SI n) = 1 ∷ n ∷ []
-code Nobody = []
+-- the code that CL and IC stand for, and the format that UF and RR draw
+abbrev code : ℕ → ℕ → List ℕ
+code cl ic = codeTold cl ic .values
 
--- the format that a request draws
-abbrev draws : Draws → List ℕ
-draws (Format f) = f ∷ []
-draws Nothing = []
+abbrev draws : ℕ → ℕ → List ℕ
+draws uf rr = drawnTold uf rr .values
 
 -- a builder's number, and what its buffer of seven nines then holds
 abbrev built : ℕ → ℕ → List ℕ
 built uf address = let o = building uf 0 0 0 0 (replicate 7 0) address (replicate 7 9) in o .number ∷ o .output
 
--- the published frames with every field given, codes of two of them, the MB bytes of one, the codes and what is drawn at the edges, and refusals
+-- 1 where UF, RR and MA are in their ranges, with PC, DI and SD at their highest
+abbrev ranged : ℕ → ℕ → ℕ → ℕ
+ranged uf rr ma = pick (selectiveRanged uf 7 rr 7 0xFFFF ma 1) 1 0
+
+-- the published frames with every field given, codes of two of them, the MB bytes of one, the codes and what is drawn at the edges,
+-- the address of an overlay, and refusals
 abbrev pub listing : List Row
 listing =
     row (read sixth) (0 ∷ 11 ∷ 5 ∷ 0x484FDE ∷ 0x16 ∷ [])
@@ -72,22 +71,26 @@ listing =
     ∷ row (coded squitter 2 0 1) (0 ∷ 2 ∷ [])
     ∷ row (mbPart (0xA0 ∷ 0x00 ∷ 0x08 ∷ 0x3E ∷ 0x20 ∷ 0x2C ∷ 0xC3 ∷ 0x71 ∷ 0xC3 ∷ 0x1D ∷ 0xE0 ∷ 0xAA ∷ 0x1C ∷ 0xCF ∷ [])) (0x20 ∷ 0x2C ∷ 0xC3 ∷ 0x71 ∷ 0xC3 ∷ 0x1D ∷ 0xE0 ∷ [])
     ∷ row (mbPart squitter) []
-    ∷ row (code (codeFor 0 15)) (0 ∷ 15 ∷ [])
-    ∷ row (code (codeFor 1 6)) (1 ∷ 6 ∷ [])
-    ∷ row (code (codeFor 4 15)) (1 ∷ 63 ∷ [])
-    ∷ row (code (codeFor 1 0)) []
-    ∷ row (code (codeFor 5 3)) []
-    ∷ row (draws (drawn 4 15)) (4 ∷ [])
-    ∷ row (draws (drawn 4 16)) (20 ∷ [])
-    ∷ row (draws (drawn 20 0)) (4 ∷ [])
-    ∷ row (draws (drawn 21 31)) (21 ∷ [])
-    ∷ row (draws (drawn 11 0)) []
+    ∷ row (code 0 15) (0 ∷ 15 ∷ [])
+    ∷ row (code 1 6) (1 ∷ 6 ∷ [])
+    ∷ row (code 4 15) (1 ∷ 63 ∷ [])
+    ∷ row (code 1 0) []
+    ∷ row (code 5 3) []
+    ∷ row (draws 4 15) (4 ∷ [])
+    ∷ row (draws 4 16) (20 ∷ [])
+    ∷ row (draws 20 0) (4 ∷ [])
+    ∷ row (draws 21 31) (21 ∷ [])
+    ∷ row (draws 11 0) []
+    ∷ row (addressTold 0xFFFA04 .values) (0x800000 ∷ [])
+    ∷ row (addressTold 0x1000000 .values) []
     ∷ row (built 6 1) (2 ∷ replicate 7 9)
     ∷ row (built 4 0) (2 ∷ replicate 7 9)
     ∷ row (built 4 0xFFFFFF) (2 ∷ replicate 7 9)
+    ∷ row (ranged 4 31 0 ∷ ranged 20 31 0xFFFFFFFFFFFFFF ∷ []) (1 ∷ 1 ∷ [])
+    ∷ row (ranged 6 0 0 ∷ ranged 11 0 0 ∷ ranged 4 32 0 ∷ ranged 5 0 1 ∷ ranged 21 0 0x100000000000000 ∷ []) (replicate 5 0)
     ∷ []
 
 -- the one claim
 pub listing-agrees : Agrees listing
-unfolding bits shiftIn divide remainderOf headOf midOf readAs surveillanceRead allCallReplyRead whose codeOf codeFor drawn selectiveRanged building
-listing-agrees = (refl, (refl, (refl, (refl, (refl, (refl, (refl, (refl, (refl, (refl, (refl, (refl, (refl, (refl, (refl, (refl, (refl, (refl, (refl, (refl, (refl, (refl, (refl, (refl, (refl, (refl, (refl, (refl, (refl, (refl, (refl, tt)))))))))))))))))))))))))))))))
+unfolding bits shiftIn divide remainderOf headOf midOf readAs surveillanceRead allCallReplyRead whose codeOf codeFor codeTold drawn drawnTold quotientBits quotientOf addressOf addressTold selectiveRanged building
+listing-agrees = (refl, (refl, (refl, (refl, (refl, (refl, (refl, (refl, (refl, (refl, (refl, (refl, (refl, (refl, (refl, (refl, (refl, (refl, (refl, (refl, (refl, (refl, (refl, (refl, (refl, (refl, (refl, (refl, (refl, (refl, (refl, (refl, (refl, (refl, (refl, tt)))))))))))))))))))))))))))))))))))

@@ -8,6 +8,7 @@ use Rattle.fields.specs.declared.answers.Interrogator.{Interrogator}
 use Rattle.fields.specs.declared.answers.Interrogator.the-variants.{II, SI, Nobody}
 use Rattle.fields.specs.declared.answers.Draws.{Draws}
 use Rattle.fields.specs.declared.answers.Draws.the-variants.{Format, Nothing}
+use Rattle.fields.specs.Answers.{Answer, interrogatorSaid, drawsSaid}
 use Rattle.fields.specs.Formats.{surveillance}
 
 -- ---- codes
@@ -32,6 +33,10 @@ codeFor cl ic =
     (pick (ofSI cl && not (eqb (siNumber cl ic) 0)) (SI (siNumber cl ic)) Nobody))
     Nobody
 
+-- what is answered for them
+unfoldable pub codeTold : ℕ → ℕ → Answer
+codeTold cl ic = interrogatorSaid (codeFor cl ic)
+
 -- ---- requests
 -- "UF 4/20 draw AC, UF 5/21 draw ID": DF 4 holds AC, DF 5 ID
 abbrev pub shortReply : ℕ → ℕ
@@ -43,3 +48,6 @@ drawn uf rr =
     pick (surveillance uf && leb rr 31)
     (pick (leb 16 rr) (Format (shortReply uf + 16)) (Format (shortReply uf)))
     Nothing
+
+unfoldable pub drawnTold : ℕ → ℕ → Answer
+drawnTold uf rr = drawsSaid (drawn uf rr)

@@ -1,7 +1,8 @@
 // The address found again from an uplink remainder.
 ghost use mathlib.Core.Path.{_≡_};
 ghost use Prim.Native.Nat.{_<_};
-ghost use Rattle.fields.specs.Addresses.{quotientOf, addressOf};
+ghost use Rattle.fields.specs.Answers.{addressSaid};
+ghost use Rattle.fields.specs.Addresses.{quotientOf, addressTold};
 use fields::Address;
 
 // The quotient of a remainder times x^24 by the generator.
@@ -23,7 +24,7 @@ fn quotient(remainder: u32) -> u32
 
 // The number of 24 bits whose uplink overlay this is; nobody above 24 bits.
 pub fn address_of(remainder: u32) -> Address
-    ensures { λ r. ⌜ r ≡ addressOf remainder ⌝ }
+    ensures { λ r. ⌜ addressSaid r ≡ addressTold remainder ⌝ }
 {
     if 0x100_0000 <= remainder {
         return Address::Nobody;

@@ -22,10 +22,13 @@ pub fn an_address(a: u32) -> bool
     a <= 16_777_214
 }
 
-// Whether the numbers of a selective interrogation are in their ranges.
+// Whether the numbers of a selective interrogation are in their ranges, its UF among them.
 pub fn selective_ranged(uf: u32, pc: u32, rr: u32, di: u32, sd: u32, ma: u64, address: u32) -> bool
     ensures { λ r. ⌜ r ≡ selectiveRanged uf pc rr di sd ma address ⌝ }
 {
+    if !surveillance(uf) {
+        return false;
+    }
     if 7 < pc {
         return false;
     }
@@ -43,6 +46,9 @@ pub fn selective_ranged(uf: u32, pc: u32, rr: u32, di: u32, sd: u32, ma: u64, ad
     }
     if ma == 0 {
         return true;
+    }
+    if 0xFF_FFFF_FFFF_FFFF < ma {
+        return false;
     }
     long_format(uf)
 }

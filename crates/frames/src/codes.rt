@@ -1,9 +1,9 @@
 // The codes: which interrogator CL and IC stand for, and whose code a DF 11 carries.
 ghost use mathlib.Core.Path.{_≡_};
 ghost use Prim.Native.Nat.{_<_};
-ghost use Rattle.fields.specs.Answers.{codeSaid, done};
+ghost use Rattle.fields.specs.Answers.{codeSaid, done, interrogatorSaid};
 ghost use Rattle.fields.specs.Codes.{stationRanged, whose, codeOf};
-ghost use Rattle.fields.specs.Shared.{ofSI, codeFor};
+ghost use Rattle.fields.specs.Shared.{ofSI, codeTold};
 use crate::frame::code_overlay;
 use crate::message::head_of;
 use crate::message::remainder_of;
@@ -23,7 +23,7 @@ fn of_si(cl: u32) -> bool
 
 // The code that CL and IC stand for; nobody's for SI 0, CL 5 to 7 and numbers out of range.
 pub fn code_for(cl: u32, ic: u32) -> Interrogator
-    ensures { λ r. ⌜ r ≡ codeFor cl ic ⌝ }
+    ensures { λ r. ⌜ interrogatorSaid r ≡ codeTold cl ic ⌝ }
 {
     if 15 < ic {
         return Interrogator::Nobody;

@@ -1,7 +1,8 @@
 // The formats: which are listed at which length, and which one a request draws.
 ghost use mathlib.Core.Path.{_≡_};
+ghost use Rattle.fields.specs.Answers.{drawsSaid};
 ghost use Rattle.fields.specs.Formats.{surveillance, longFormat, lengthOf, listed};
-ghost use Rattle.fields.specs.Shared.{shortReply, drawn};
+ghost use Rattle.fields.specs.Shared.{shortReply, drawnTold};
 ghost use Prim.Native.Nat.{_≤_};
 use fields::Draws;
 
@@ -66,7 +67,7 @@ fn short_reply(uf: u32) -> u8
 
 // The format of the reply that a request draws; nothing for another UF or an RR above 31.
 pub fn drawn(uf: u32, rr: u32) -> Draws
-    ensures { λ r. ⌜ r ≡ drawn uf rr ⌝ }
+    ensures { λ r. ⌜ drawsSaid r ≡ drawnTold uf rr ⌝ }
 {
     if !surveillance(uf) {
         return Draws::Nothing;

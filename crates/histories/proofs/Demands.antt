@@ -1,26 +1,30 @@
 -- The demands, over every history of calls.
+use borrow.Author.Tests.{ltb-true}
 use Prim.Native.Nat.{ℕ}
 use mathlib.Core.Path.{_≡_, refl, ap, ap₂, _∙_}
 use mathlib.Core.List.{List, [], _∷_, map}
+use lib.ListN.{length}
 use Rattle.lists.specs.Lists.{All}
-use Rattle.lists.proofs.Each.{all-image}
+use Rattle.lists.proofs.Each.{all-at, all-image}
 use Rattle.remainders.specs.Messages.{AreBytes}
 use Rattle.plans.specs.declared.request.Request.{Request}
 use Rattle.plans.specs.declared.request.Ask.{Ask}
 use Rattle.plans.proofs.Demand3.{demand3, left-each}
 use Rattle.histories.specs.declared.state.Station.{Station}
 use Rattle.histories.specs.declared.state.Targets.{Targets}
-use Rattle.histories.specs.State.{requestsOf}
+use Rattle.histories.specs.State.{requestsOf, entriesOf, noEntry}
 use Rattle.histories.specs.Planning.{askFor, requestOf, asked, boardFor, nextPlan}
-use Rattle.histories.specs.Replies.{replied}
+use Rattle.histories.specs.Replies.{startOf, entryNumbered, replied}
 use Rattle.histories.specs.History.{Call, after}
-use Rattle.histories.specs.Kept.{Kept}
-use Rattle.histories.specs.Demands.{Demand1, Ages, Believed, Plans}
+use Rattle.histories.specs.Kept.{Entered, Kept}
+use Rattle.histories.specs.Demands.{Demand1, Ages, Believed, InTime, Plans}
 use Rattle.histories.proofs.Came.{refusal-changes-nothing, refused-reply-writes-nothing}
 use Rattle.histories.proofs.Keeping.{proper, plan-shows, plan-leaves, always-kept}
 use Rattle.histories.proofs.Numbers.{numbers}
 use Rattle.histories.proofs.Ages.{report-is}
 use Rattle.histories.proofs.Replies.{believed}
+use Rattle.histories.proofs.Taken.{right}
+use Rattle.histories.proofs.Windows.{in-time}
 
 -- demand 1
 pub demand1 : (cs : List Call) → Demand1 cs
@@ -38,6 +42,15 @@ ages cs = record { told = report-is cs }
 -- demand 2, replies
 pub replies : (cs : List Call) (k tag : ℕ) (msg marks out : List ℕ) → AreBytes msg → replied (after cs) k tag msg marks out .number ≡ 0 → Believed (after cs) k msg marks (replied (after cs) k tag msg marks out)
 replies cs k tag msg marks out bytes e = believed (after cs) k tag msg marks out bytes e
+
+-- in every history a reply that is taken begins and ends in the listening window of its entry, and the delay told is its own
+pub taken-in-time : (cs : List Call) (k tag : ℕ) (msg marks out : List ℕ) → replied (after cs) k tag msg marks out .number ≡ 0
+    → InTime (entryNumbered k (after cs)) (startOf tag (after cs .plan .tag)) msg (replied (after cs) k tag msg marks out .delay)
+taken-in-time cs k tag msg marks out e =
+    let t = right (after cs) k tag msg marks out e in
+    let l = ltb-true k (length (entriesOf (after cs .plan))) (t .listed) in
+    let entered = all-at (Entered (after cs .targets)) (entriesOf (after cs .plan)) noEntry k (always-kept cs .entries) l in
+    rw (t .told) (in-time (entryNumbered k (after cs)) (startOf tag (after cs .plan .tag)) msg (entered .0) (t .long) (t .inside))
 
 -- ---- demand 3
 -- what is left waits with near and far of its target, as it was asked

@@ -8,14 +8,14 @@ use mathlib.Core.Bool.{Bool, true, false, not, _&&_, _||_, false≢true}
 use lib.ListN.{length, getD, set}
 use lib.Dec.{eqb, leb}
 use Rattle.lists.specs.Lists.{pick, countOf, every, total, filter, All}
-use Rattle.lists.proofs.Tests.{and-left, and-right, and-yes}
+use Rattle.lists.proofs.Tests.{and-true, and-left, and-right, and-yes}
 use Rattle.lists.proofs.Over.{take-over}
 use Rattle.lists.proofs.Count.{count-nil, count-snoc}
 use Rattle.lists.proofs.Held.{all-snoc, all-map}
 use Rattle.lists.proofs.Each.{all-set, all-kept, count-kept, none-fail, all-pass, all-image, count-image}
 use Rattle.lists.proofs.Keys.{fewer}
-use Rattle.fields.specs.Formats.{surveillance}
 use Rattle.fields.specs.Building.{anAddress, selectiveRanged}
+use Rattle.fields.proofs.Ranges.{InSelective, selective-in}
 use Rattle.plans.specs.declared.request.Request.{Request}
 use Rattle.plans.specs.declared.request.Ask.{Ask}
 use Rattle.plans.specs.declared.entry.Entry.{Entry}
@@ -58,15 +58,13 @@ reach-of a near far R g = (
   leb-true far R (and-right (anAddress a && leb near far) (leb far R) g),
 )
 
-pub unit-of : (q : Request) → requestRanged q ≡ true → q .unit < 8
+-- a request that is let in: its unit, and the numbers of its interrogation
+pub request-in : (q : Request) → requestRanged q ≡ true → (q .unit < 8) × InSelective (q .uf) (q .pc) (q .rr) (q .di) (q .sd) (q .ma) (q .address)
 unfolding requestRanged
-unit-of q e =
-    let h =
-    leb-true (q .unit) 7
-    (and-left (leb (q .unit) 7) (surveillance (q .uf))
-    (and-left (leb (q .unit) 7 && surveillance (q .uf)) (selectiveRanged (q .uf) (q .pc) (q .rr) (q .di) (q .sd) (q .ma) (q .address))
-    (and-left _ (leb (q .ma) 0xFFFFFFFFFFFFFF) e))) in
-    omega arith
+request-in q e =
+    let t = and-true (leb (q .unit) 7) (selectiveRanged (q .uf) (q .pc) (q .rr) (q .di) (q .sd) (q .ma) (q .address)) e in
+    let u = leb-true (q .unit) 7 (t .0) in
+    (omega arith, selective-in (q .uf) (q .pc) (q .rr) (q .di) (q .sd) (q .ma) (q .address) (t .1))
 
 -- ---- the target of an address
 pub address-of : (a : ℕ) (ts : List Target) → has a ts ≡ true → look a ts .address ≡ a
@@ -156,7 +154,7 @@ pub proper : (s : Station) → Kept s → All (Proper (s .setup)) (asked s)
 unfolding asked
 proper s h =
     all-image (askFor (s .targets)) (Waits (s .targets)) (Proper (s .setup))
-    (λ q k. let r = all-look (InReach (s .setup .reach)) (q .address) (targetsOf (s .targets)) (h .reach) (k .1) in record { unitIn = unit-of q (k .0); nearIn = r .0; farIn = r .1 })
+    (λ q k. let r = all-look (InReach (s .setup .reach)) (q .address) (targetsOf (s .targets)) (h .reach) (k .1) in record { unitIn = request-in q (k .0) .0; nearIn = r .0; farIn = r .1 })
     (requestsOf (s .waiting)) (h .waiting)
 
 -- what is left waits as before, and each entry is of a request that waited
@@ -350,7 +348,7 @@ unfolding unitFull
 six cs u l =
     let h = always-kept cs in
     either _ _
-    (λ e. lt-leb _ _ (fewer (λ (q : Request). q .unit) (requestsOf (after cs .waiting)) u (all-map (Waits (after cs .targets)) (λ (q : Request). q .unit < 8) (λ q k. unit-of q (k .0)) (requestsOf (after cs .waiting)) (h .waiting)) (λ v _. h .sixteen v) l (leb-false 16 _ e)))
+    (λ e. lt-leb _ _ (fewer (λ (q : Request). q .unit) (requestsOf (after cs .waiting)) u (all-map (Waits (after cs .targets)) (λ (q : Request). q .unit < 8) (λ q k. request-in q (k .0) .0) (requestsOf (after cs .waiting)) (h .waiting)) (λ v _. h .sixteen v) l (leb-false 16 _ e)))
   where
     either : (a b : Bool) → (a ≡ false → b ≡ false) → a || b ≡ a
     either true b h = refl

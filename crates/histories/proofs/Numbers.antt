@@ -13,10 +13,9 @@ use Rattle.lists.proofs.Tests.{and-left, and-right, and-yes}
 use Rattle.remainders.specs.Answers.{Outcome, refused}
 use Rattle.remainders.specs.Messages.{bits}
 use Rattle.remainders.specs.Correction.{weight, flipped, matching, want, judged, sized, ranged, correction}
-use Rattle.fields.specs.Formats.{surveillance, lengthOf}
-use Rattle.fields.specs.Building.{anAddress, selectiveRanged}
+use Rattle.fields.specs.Formats.{lengthOf}
+use Rattle.fields.specs.Building.{anAddress}
 use Rattle.fields.specs.Reading.{formatOf}
-use Rattle.fields.proofs.Ranges.{selective-in}
 use Rattle.plans.specs.declared.request.Request.{Request}
 use Rattle.plans.specs.declared.setup.Setup.{Setup}
 use Rattle.plans.specs.Shares as shares
@@ -30,7 +29,7 @@ use Rattle.histories.specs.History.{Call, setup, new, remove, move, requ
 use Rattle.lists.specs.Checks.{given}
 use Rattle.histories.specs.Numbers.{setupRanged, sharesGood, requestAt, replyChecks, checks}
 use Rattle.histories.specs.Kept.{Entered, Kept}
-use Rattle.histories.proofs.Keeping.{always-kept, unit-of, six}
+use Rattle.histories.proofs.Keeping.{always-kept, request-in, six}
 
 -- ---- a setup
 one-test : (a b c d e f : Bool) → _≡_ {A = ℕ} (pick (not a) 2 (pick (not b) 2 (pick (not c) 2 (pick (not d) 2 (pick (not e) 3 (pick (not f) 3 0)))))) (pick (not (a && b && c && d)) 2 (pick (not (e && f)) 3 0))
@@ -82,19 +81,11 @@ module _ (s : Station) where
   check-reply out false n m y e = e refl
 
 -- ---- a reply
-address-in : (q : Request) → calls.requestRanged q ≡ true → q .address ≤ 16777214
-unfolding calls.requestRanged
-address-in q e =
-    let r =
-    and-right (leb (q .unit) 7 && surveillance (q .uf)) (selectiveRanged (q .uf) (q .pc) (q .rr) (q .di) (q .sd) (q .ma) (q .address))
-    (and-left _ (leb (q .ma) 0xFFFFFFFFFFFFFF) e) in
-    selective-in (q .uf) (q .pc) (q .rr) (q .di) (q .sd) (q .ma) (q .address) r .address-is .1
-
 -- the overlay of an entry and the station's limit are in their ranges
 overlay-in : (s : Station) → Kept s → (k : ℕ) → k < length (entriesOf (s .plan)) → ranged (requestAt k s .address) (s .setup .limit) ≡ true
 overlay-in s h k l =
     let r = all-at (Entered (s .targets)) (entriesOf (s .plan)) noEntry k (h .entries) l .0 in
-    let a = address-in (requestAt k s) r in
+    let a = request-in (requestAt k s) r .1 .address-is .1 in
     and-yes (ltb (requestAt k s .address) 0x1000000) (leb (s .setup .limit) 12) (lt-ltb (requestAt k s .address) 0x1000000 (omega (arith, a))) (le-leb (s .setup .limit) 12 (limit-in (s .setup) (h .shares)))
 
 settled-number : (s : Station) (k start : ℕ) (out : List ℕ) (o : Outcome) → settled k start out o s .number ≡ o .number
@@ -159,7 +150,7 @@ numbers cs (request q) =
     check (after cs) (not (calls.requestRanged q)) 2 _ _
     (λ e. check (after cs) (not (inList (q .address) (after cs .targets))) 4 _ _
     (λ _. check (after cs) (calls.unitFull (q .unit) (after cs .waiting)) 6 0 _ (λ _. refl)
-    ∙ ap (λ (b : Bool). pick b 6 0) (six cs (q .unit) (unit-of q (not-false (calls.requestRanged q) e)))))
+    ∙ ap (λ (b : Bool). pick b 6 0) (six cs (q .unit) (request-in q (not-false (calls.requestRanged q) e) .0))))
 numbers cs (plan tag) = refl
 numbers cs (reply k tag msg marks out) = reply-number (after cs) (always-kept cs) k tag msg marks out
 numbers cs (report a) =

@@ -7,7 +7,6 @@ use Rattle.lists.specs.Lists.{pick, countOf}
 use Rattle.plans.specs.declared.request.Request.{Request}
 use Rattle.plans.specs.declared.setup.Setup.{Setup}
 use Rattle.plans.specs.Shares.{judged}
-use Rattle.fields.specs.Formats.{surveillance}
 use Rattle.fields.specs.Building.{anAddress, selectiveRanged}
 use Rattle.histories.specs.declared.state.Value.the-variants.{Never}
 use Rattle.histories.specs.declared.state.Target.{Target}
@@ -35,13 +34,9 @@ setUp s h = pick (not (eqb (judged h) 0)) (refused (judged h) s) (done (emptied 
 unfoldable pub targetRanged : ℕ → ℕ → ℕ → ℕ → Bool
 targetRanged a near far reach = anAddress a && leb near far && leb far reach
 
--- "unit 0 to 7 .. PC, DI 0 to 7; RR 0 to 31; SD 16 bits .. UF of a request 4, 5, 20 or 21, with MA zero for 4 and 5", else of 56 bits
+-- "unit 0 to 7", and the numbers of its interrogation in their ranges
 unfoldable pub requestRanged : Request → Bool
-requestRanged q =
-    leb (q .unit) 7
-    && surveillance (q .uf)
-    && selectiveRanged (q .uf) (q .pc) (q .rr) (q .di) (q .sd) (q .ma) (q .address)
-    && leb (q .ma) 0xFFFFFFFFFFFFFF
+requestRanged q = leb (q .unit) 7 && selectiveRanged (q .uf) (q .pc) (q .rr) (q .di) (q .sd) (q .ma) (q .address)
 
 -- ---- room
 -- "64 targets held"

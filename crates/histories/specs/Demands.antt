@@ -1,9 +1,17 @@
 -- The demands, each as one record over every history: what its theorem in proofs/ shows.
-use Prim.Native.Nat.{ℕ}
+use Prim.Native.Nat.{ℕ, _+_, _≤_}
 use mathlib.Core.Path.{_≡_}
+use mathlib.Core.Logic.{_↔_}
 use mathlib.Core.List.{List, map}
+use lib.ListN.{length}
+use lib.Dec.{eqb}
+use lib.IntN.{ℤ, pos, negsuc, subℕ, _-ℤ_}
+use lib.Signed.{_≤ℤ_}
+use Rattle.lists.specs.Lists.{pick}
 use Rattle.remainders.specs.Corrected.{Corrected}
 use Rattle.fields.specs.Reading.{formatOf}
+use Rattle.plans.specs.declared.entry.Entry.{Entry}
+use Rattle.plans.specs.Exchange.{replyShort, replyLong, listens}
 use Rattle.plans.specs.Demand3.{Demand3}
 use Rattle.histories.specs.declared.state.Station.{Station}
 use Rattle.histories.specs.State.{entriesOf, requestsOf}
@@ -30,6 +38,20 @@ pub record Ages (cs : List Call) : Type 0 where
 pub record Believed (s : Station) (k : ℕ) (msg marks : List ℕ) (r : Replied) : Type 0 where
   pub corrected : Corrected msg marks (requestAt k s .address) (r .flips) (r .output)
   pub format : formatOf (r .output) ≡ expected (requestAt k s)
+
+-- how many ticks a reply lasts: "replies 256 short and 480 long", by its bytes
+abbrev pub lasts : List ℕ → ℕ
+lasts msg = pick (eqb (length msg) 14) replyLong replyShort
+
+-- demand 2, replies: one that begins s ticks after the plan's tag and is taken for the entry lies whole in the window in which the entry listens;
+-- "measured delay is s−t−531 and may be −1", from one less than near to one more than far
+pub record InTime (e : Entry) (s : ℕ) (msg : List ℕ) (delay : ℤ) : Type 0 where
+  pub begins : listens e .lo ≤ s
+  pub ends : s + lasts msg ≤ listens e .hi
+  pub measured : delay ≡ pos s -ℤ pos (e .start) -ℤ pos 531
+  pub minusOne : (delay ≡ negsuc 0) ↔ (s + 1 ≡ e .start + 531)
+  pub least : subℕ (e .ask .near) 1 ≤ℤ delay
+  pub most : delay ≤ℤ pos (e .ask .far + 1)
 
 -- demand 3: every plan meets Demand3 against the waiting list that it was made from, in the first period and in every later one
 pub record Plans (cs : List Call) : Type 0 where

@@ -1,11 +1,17 @@
 -- Calls at the edges of the station, as one listing: what the definitions give beside what document 01 says, worked by hand.
-use Prim.Native.Nat.{ℕ}
+use Prim.Native.Nat.{ℕ, suc}
 use mathlib.Core.Path.{refl}
 use mathlib.Core.List.{List, [], _∷_, _++_, map}
 use lib.ListN.{replicate}
+use lib.IntN.{ℤ, pos, negsuc}
 use Rattle.lists.specs.Listing.{Row, row, Agrees}
 use Rattle.lists.specs.Lists.{countOf, total, every, indexOf, filter, over}
+use Rattle.remainders.specs.Messages.{bits}
+use Rattle.remainders.specs.Division.{shiftIn, divide, remainderOf, syndrome}
+use Rattle.remainders.specs.Correction.{weight, subsets, sumOf, matching, flipped, correction}
+use Rattle.fields.specs.Fields.{headOf}
 use Rattle.fields.specs.Building.{selectiveRanged}
+use Rattle.fields.specs.Shared.{drawn}
 use Rattle.plans.specs.declared.request.Request.{Request}
 use Rattle.plans.specs.declared.entry.Entry.{Entry}
 use Rattle.plans.specs.Exchange.{sentFor, replyFor, apart, clear}
@@ -16,6 +22,7 @@ use Rattle.histories.specs.declared.state.Station.{Station}
 use Rattle.histories.specs.State.{emptied, blank, fresh, entriesOf, withTargets, withWaiting}
 use Rattle.histories.specs.Calls.{setUp, targetRanged, requestRanged, unitFull, newTarget, without, removed, moved, requested}
 use Rattle.histories.specs.Planning.{asked, boardFor, nextPlan}
+use Rattle.histories.specs.Replies.{expected, startOf, inWindow, ofFormat, settled, corrected, replied}
 use Rattle.histories.specs.History.{Call, setup, new, remove, move, request, plan, answer, after}
 
 -- ---- the calls, the newest first in a history
@@ -55,6 +62,21 @@ starts cs = map (λ (e : Entry). e .start) (entriesOf (after cs .plan))
 abbrev nears : List Call → List ℕ
 nears cs = map (λ (e : Entry). e .ask .near) (entriesOf (after cs .plan))
 
+-- ---- replies to entry 0, for target 1 at (0, 4), of a plan with a tag: DF 4 with AC 0 over address 1, no bit marked
+abbrev near-by : ℕ → List Call
+near-by tag = plan tag ∷ request (asking 0 1) ∷ new 1 0 4 ∷ begun
+
+-- a delay's sign, 1 for minus, and its size
+abbrev signed : ℤ → List ℕ
+signed (pos n) = 0 ∷ n ∷ []
+signed (negsuc n) = 1 ∷ suc n ∷ []
+
+-- what a reply with a tag is told: its number, and the delay
+abbrev told : ℕ → ℕ → List ℕ
+told planTag tag =
+    let r = replied (after (near-by planTag)) 0 tag (0x20 ∷ 0 ∷ 0 ∷ 0 ∷ 0x80 ∷ 0x66 ∷ 0x5E ∷ []) (replicate 7 0) (replicate 7 0) in
+    r .number ∷ signed (r .delay)
+
 -- ---- the rows
 abbrev pub listing : List Row
 listing =
@@ -73,9 +95,17 @@ listing =
     ∷ row (nears (plan 1 ∷ request (asking 0 1) ∷ move 1 500 504 ∷ plan 0 ∷ waiting)) (500 ∷ [])
     -- "removal drops the target's requests", and its return does not bring them back
     ∷ row (units (plan 0 ∷ new 1 1000 1004 ∷ remove 1 ∷ waiting)) (0 ∷ [])
+    -- "taken for t+530+near ≤ s ≤ t+532+far. Measured delay is s−t−531 and may be −1": a tick early, −1, 0, far + 1, a tick late
+    ∷ row (told 100 629) (10 ∷ 0 ∷ 0 ∷ [])
+    ∷ row (told 100 630) (0 ∷ 1 ∷ 1 ∷ [])
+    ∷ row (told 100 631) (0 ∷ 0 ∷ 0 ∷ [])
+    ∷ row (told 100 636) (0 ∷ 0 ∷ 5 ∷ [])
+    ∷ row (told 100 637) (10 ∷ 0 ∷ 0 ∷ [])
+    -- "32-bit counts that wrap": the plan 100 ticks before the wrap, the reply 430 after it
+    ∷ row (told 4294967196 430) (0 ∷ 1 ∷ 1 ∷ [])
     ∷ []
 
 -- the one claim
 pub listing-agrees : Agrees listing
-unfolding countOf total every indexOf filter over selectiveRanged sentFor replyFor apart clear clearOf fits first place sharesFit judged plans.tried plans.pass plans.alone plans.turns plans.plan blank emptied setUp targetRanged requestRanged unitFull newTarget without removed moved requested asked boardFor nextPlan after
-listing-agrees = (refl, (refl, (refl, (refl, (refl, (refl, (refl, (refl, (refl, tt)))))))))
+unfolding countOf total every indexOf filter over selectiveRanged sentFor replyFor apart clear clearOf fits first place sharesFit judged plans.tried plans.pass plans.alone plans.turns plans.plan blank emptied setUp targetRanged requestRanged unitFull newTarget without removed moved requested asked boardFor nextPlan after expected drawn startOf inWindow ofFormat settled corrected replied bits shiftIn divide remainderOf syndrome weight subsets sumOf matching flipped correction headOf
+listing-agrees = (refl, (refl, (refl, (refl, (refl, (refl, (refl, (refl, (refl, (refl, (refl, (refl, (refl, (refl, (refl, tt)))))))))))))))

@@ -10,7 +10,7 @@ use lib.ListN.{replicate}
 use Rattle.letters.specs.Put.{decimalIn, decimal, laid, Put}
 use Rattle.letters.specs.Signed.{signedDecimal}
 use Rattle.letters.specs.Line.{blank, inWord, newline, inLine, grown, parts, full, linesOf, wordsOf, sameAs, front, runEnd}
-use Rattle.letters.specs.Line.{lineEnd, lineAfter, lineAt, wordAt, nthAt, within, NthWord}
+use Rattle.letters.specs.Line.{lineEnd, lineAfter, lineAt, lineSpan, wordAt, nthAt, within, NthWord}
 use Rattle.letters.specs.Number.{between, isDigit, allDigits, valueAfter, numberIn}
 use Rattle.letters.specs.Hex.{hexDigit, hexIn, hexOf, hexValue, allHex, pairs, isHex, bytesIn}
 use Rattle.letters.specs.Plain.{plain}
@@ -79,6 +79,12 @@ line-ends = (refl, refl, refl, refl)
 lines-at : (lineAt (plain "ab\ncd\n") 0 ≡ plain "ab") × (lineAt (plain "ab\ncd\n") 3 ≡ plain "cd") × (lineAt (plain "ab\ncd\n") 6 ≡ [])
 unfolding lineAt lineEnd runEnd front inLine newline
 lines-at = (refl, refl, refl)
+
+-- a line's span, an empty one among them; behind the input the empty span at its end
+line-spans : (lineSpan (plain "ab\n\nc") 0 ≡ record { from = 0; to = 2 }) × (lineSpan (plain "ab\n\nc") 3 ≡ record { from = 3; to = 3 })
+    × (lineSpan (plain "ab\n\nc") 4 ≡ record { from = 4; to = 5 }) × (lineSpan (plain "ab\n\nc") 9 ≡ record { from = 5; to = 5 })
+unfolding lineSpan lineEnd runEnd front inLine newline
+line-spans = (refl, refl, refl, refl)
 
 after-lines : (lineAfter (plain "ab\nc") 2 ≡ 3) × (lineAfter (plain "ab\nc") 4 ≡ 4)
 after-lines = (refl, refl)

@@ -1,5 +1,5 @@
 -- Laws of lines: the line at a place and the lines after it, for a run over all lines of an input.
-use Prim.Native.Nat.{ℕ, zero, suc, _+_, _-_, _≤_, _<_}
+use Prim.Native.Nat.{ℕ, zero, suc, _+_, _-_, _≤_, _<_, min}
 use native.Mathlib.Omega.{arith}
 use mathlib.Core.Path.{_≡_, refl, sym, ap, _∙_}
 use mathlib.Core.List.{List, [], _∷_}
@@ -9,7 +9,7 @@ use lib.ListN.{length, getD, take, drop, length-drop, length-take, drop-of-lengt
 use lib.Dec.{ltb}
 use borrow.Author.Tests.{ltb-true, ltb-false, not-true, eq-eqb, ne-eqb}
 use Rattle.lists.specs.Lists.{pick}
-use Rattle.letters.specs.Line.{newline, inLine, grown, parts, linesOf, front, runEnd, lineEnd, lineAt, within, LineTo, LineHeld}
+use Rattle.letters.specs.Line.{newline, inLine, grown, parts, linesOf, front, runEnd, lineEnd, lineAt, lineSpan, within, LineTo, LineHeld}
 use Rattle.letters.proofs.Runs.{front-more, front-stop, run-is, run-fits, run-inside}
 
 -- ---- the first part of a text, and the parts after it
@@ -90,15 +90,18 @@ module _ (s : List ℕ) (at : ℕ) where
   -- the span of a line; behind the input's end there is none
   module _ {to : ℕ} (e : to ≡ lineEnd s at) where
     pub held-from : at ≤ to → LineHeld s at (record { from = at; to = to })
-    unfolding within lineAt
-    held-from h = record { text = rw e; end = e; order = h; fits = omega (arith, line-end-fits) }
+    unfolding within lineAt lineSpan
+    held-from h =
+        let m : min at to ≡ at = omega arith in
+        record { is = rw (← e, m); text = rw e; end = e; order = h; fits = omega (arith, line-end-fits) }
 
     pub held-none : to < at → LineHeld s at (record { from = to; to = to })
-    unfolding within lineAt
+    unfolding within lineAt lineSpan
     held-none h =
+        let m : min at to ≡ to = omega arith in
         let a : to - to ≡ 0 = omega arith in
         let b : lineEnd s at - at ≡ 0 = omega arith in
-        record { text = rw (a, b); end = e; order = omega arith; fits = omega (arith, line-end-fits) }
+        record { is = rw (← e, m); text = rw (a, b); end = e; order = omega arith; fits = omega (arith, line-end-fits) }
 
   pub line-length : length (lineAt s at) ≡ lineEnd s at - at
   unfolding lineAt

@@ -77,6 +77,10 @@ lineAfter s end = min (length s) (end + 1)
 unfoldable pub lineAt : List ℕ → ℕ → List ℕ
 lineAt s at = take (lineEnd s at - at) (drop at s)
 
+-- its span; behind the input's end the empty span there
+unfoldable pub lineSpan : List ℕ → ℕ → Span
+lineSpan s at = record { from = min at (lineEnd s at); to = lineEnd s at }
+
 -- the next word at or after at; where there is none, the empty span at the line's end
 unfoldable pub wordAt : List ℕ → ℕ → Span
 wordAt line at = record { from = runEnd blank line at; to = runEnd inWord line (runEnd blank line at) }
@@ -99,6 +103,7 @@ pub record LineTo (s : List ℕ) (at r : ℕ) : Type 0 where
 
 -- the line that begins at a place
 pub record LineHeld (s : List ℕ) (at : ℕ) (r : Span) : Type 0 where
+  pub is : r ≡ lineSpan s at
   pub text : within s r ≡ lineAt s at
   pub end : r .to ≡ lineEnd s at
   pub order : r .from ≤ r .to

@@ -1,20 +1,25 @@
 -- The difference of two numbers with its sign, as a signed subtraction at 32 bits reckons it.
-use Prim.Native.Nat.{ℕ, zero, suc, _-_, _+_, _^_, _<_}
+use Prim.Native.Nat.{ℕ, zero, suc, _-_, _+_, _^_, _≤_, _<_}
 use native.Mathlib.Omega.{arith}
-use mathlib.Core.Path.{_≡_, refl, ap, ap₂, _∙_}
+use mathlib.Core.Path.{_≡_, refl, sym, ap, ap₂, _∙_}
 use mathlib.Core.Bool.{Bool, true, false}
-use lib.Dec.{ltb}
+use lib.Dec.{ltb, le→leb}
 use lib.IntN.{ℤ, pos, negsuc, subℕ, _-ℤ_}
-use lib.Signed.{mag}
+use lib.Signed.{mag, _≤ℤ_, leZ-yes}
 use mir.Syntax.{w32}
 use mir.Val.{SFits, toZ, ofZ}
 use mir.ValLaws.{toZ-ofZ, toZ-pos}
 use borrow.Author.Tests.{lt-ltb, le-ltb, ltb-true, ltb-false}
 
+pub sub-nothing : (a : ℕ) → subℕ a 0 ≡ pos a
+sub-nothing a =
+    let z : a - 0 ≡ a = omega arith in
+    rw (le-ltb a 0 (omega arith)) (ap pos z)
+
 pub minus : (a b : ℕ) → pos a -ℤ pos b ≡ subℕ a b
 minus a zero =
-    let z : a + 0 ≡ a - 0 = omega arith in
-    rw (le-ltb a 0 (omega arith)) (ap pos z)
+    let z : a + 0 ≡ a = omega arith in
+    ap pos z ∙ sym (sub-nothing a)
 minus a (suc b) = refl
 
 small : (a b m : ℕ) → a < m → b < m → mag (subℕ a b) < m
@@ -80,3 +85,23 @@ difference-same a b m n e = go (ltb a m) (ltb b n) refl refl
         let f : pos (a - m) ≡ pos (b - n) = rw (h, k) at e in
         let z : a - m ≡ b - n = cc in
         omega arith
+
+-- ---- and a − m is at most b − n where a + n is at most b + m
+
+pub difference-le : (a b m n : ℕ) → a + n ≤ b + m → subℕ a m ≤ℤ subℕ b n
+difference-le a b m n e = go (ltb a m) (ltb b n) refl refl
+  where
+    go : (s t : Bool) → ltb a m ≡ s → ltb b n ≡ t → subℕ a m ≤ℤ subℕ b n
+    go true true h k =
+        let l = ltb-true a m h in
+        let r = ltb-true b n k in
+        rw (h, k) (leZ-yes (le→leb (n - suc b) (m - suc a) (omega arith)))
+    go true false h k = rw (h, k) (leZ-yes tt)
+    go false true h k =
+        let l = ltb-false a m h in
+        let r = ltb-true b n k in
+        absurd (omega arith)
+    go false false h k =
+        let l = ltb-false a m h in
+        let r = ltb-false b n k in
+        rw (h, k) (leZ-yes (le→leb (a - m) (b - n) (omega arith)))

@@ -1,7 +1,7 @@
 // An exchange with an aircraft: the numbers of Annex 10, and its intervals.
 ghost use mathlib.Core.Path.{_≡_};
 ghost use Prim.Native.Nat.{_≤_};
-ghost use Rattle.plans.specs.Exchange.{derived, sentShort, sentLong, replyFor, lasting, exchangeOf};
+ghost use Rattle.plans.specs.Exchange.{constants, sentShort, sentLong, replyFor, lasting, exchangeOf};
 ghost use Rattle.planner.specs.Promises.{held, Small};
 use plans::Ask;
 
@@ -44,11 +44,23 @@ impl Exchange {
     // The longest exchange, but for the distance.
     pub const LONGEST: u32 = Self::LATEST + Self::REPLY_LONG;
 
-    // The four numbers that follow from those of Annex 10.
-    pub fn derived() -> [u32; 4]
-        ensures { λ r. ⌜ r ≡ derived ⌝ }
+    // The seven numbers from Annex 10 and the four that follow from them, each by itself.
+    pub fn constants() -> [u32; 11]
+        ensures { λ r. ⌜ r ≡ constants ⌝ }
     {
-        [Self::EARLIEST, Self::DELAY, Self::LATEST, Self::LONGEST]
+        [
+            Self::REVERSAL,
+            Self::TURNAROUND,
+            Self::TOLERANCE,
+            Self::SENT_SHORT,
+            Self::SENT_LONG,
+            Self::REPLY_SHORT,
+            Self::REPLY_LONG,
+            Self::EARLIEST,
+            Self::DELAY,
+            Self::LATEST,
+            Self::LONGEST,
+        ]
     }
 
     // The exchange of a short interrogation.

@@ -8,7 +8,7 @@ use Rattle.lists.specs.Lists.{countOf, filter, total, every}
 use Rattle.plans.specs.declared.request.Ask.{Ask}
 use Rattle.plans.specs.declared.entry.Entry.{Entry}
 use Rattle.plans.specs.declared.setup.Setup.{Setup}
-use Rattle.plans.specs.Exchange.{Course, derived, sentShort, sentLong, sentFor, replyFor, lasting, exchangeOf, apart, clear}
+use Rattle.plans.specs.Exchange.{Course, constants, sentShort, sentLong, sentFor, replyFor, lasting, exchangeOf, apart, clear}
 use Rattle.plans.specs.Fits.{clearOf, fits, first, place}
 use Rattle.plans.specs.Shares.{sharesFit, judged}
 use Rattle.plans.specs.Plan.{Board, tried, pass, alone, turns, plan}
@@ -37,10 +37,10 @@ requests third = ask 0 1 20 16 2000 2010 ∷ ask 0 2 4 0 1000 1004 ∷ ask 1 thi
 abbrev starts : List Ask → List ℕ
 starts w = map (λ (e : Entry). e .start) (plan (setup 20000 3000 (shares 2 1) (shares 3 2)) w .placed)
 
--- the derived numbers; P1; P1 with the third request for address 2; three guarantees with R 3000, just accepted and just not
+-- the numbers of Annex 10 and those that follow; P1; P1 with the third request for address 2; three guarantees with R 3000, just accepted and just not
 abbrev pub listing : List Row
 listing =
-    row derived (530 ∷ 531 ∷ 532 ∷ 1012 ∷ [])
+    row constants (19 ∷ 512 ∷ 1 ∷ 79 ∷ 135 ∷ 256 ∷ 480 ∷ 530 ∷ 531 ∷ 532 ∷ 1012 ∷ [])
     ∷ row (starts (requests 3)) (0 ∷ 135 ∷ 397 ∷ [])
     ∷ row (starts (requests 2)) (0 ∷ 135 ∷ 1927 ∷ [])
     ∷ row (judged (setup 12036 3000 (shares 2 1) (shares 3 2)) ∷ []) (0 ∷ [])

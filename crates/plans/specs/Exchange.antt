@@ -45,9 +45,21 @@ latest = reversal + turnaround + tolerance
 abbrev pub longest : ℕ
 longest = latest + replyLong
 
--- the numbers that follow from those of Annex 10
-abbrev pub derived : List ℕ
-derived = earliest ∷ delay ∷ latest ∷ longest ∷ []
+-- the seven numbers from Annex 10, and the four that follow from them
+abbrev pub constants : List ℕ
+constants =
+    reversal
+    ∷ turnaround
+    ∷ tolerance
+    ∷ sentShort
+    ∷ sentLong
+    ∷ replyShort
+    ∷ replyLong
+    ∷ earliest
+    ∷ delay
+    ∷ latest
+    ∷ longest
+    ∷ []
 
 -- UF 20 and above is a long interrogation; RR 16 and above draws the long reply
 unfoldable pub sentFor : ℕ → ℕ

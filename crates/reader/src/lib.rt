@@ -14,6 +14,7 @@ pub use fields::tag_at;
 pub use kinds::body_length;
 pub use kinds::message_length;
 pub use reader::found_at;
+pub use reader::found_by;
 pub use reader::next;
 pub use reader::reader_at;
 pub use reading::record_at;

@@ -1,7 +1,8 @@
 // The calls on a reader. Thin functions over it leave the work to those on stream and place.
 ghost use mathlib.Core.Path.{_≡_};
-ghost use Rattle.records.specs.Records.{recordAt};
-ghost use Rattle.records.specs.Readers.{readerAt, foundBy};
+ghost use Rattle.records.specs.Answers.{foundSaid, toldAt};
+ghost use Rattle.records.specs.Readers.{readerAt, toldBy, movedOn};
+use crate::reading::next_place;
 use crate::reading::record_at;
 use records::Found;
 use records::Reader;
@@ -14,15 +15,25 @@ pub fn reader_at<'a>(stream: &'a [u8], place: usize) -> Reader<'a>
 }
 
 // What the reader finds where it is.
-pub fn next<'a>(r: Reader<'a>) -> Found
-    ensures { λ f. ⌜ f ≡ foundBy (r .entry) ⌝ }
+pub fn found_by<'a>(r: Reader<'a>) -> Found
+    ensures { λ f. ⌜ foundSaid f ≡ toldBy (r .entry) ⌝ }
 {
     record_at(r.stream, r.place)
 }
 
-// What the reader finds at a place: of plain parameters, for covered code to call.
-pub fn found_at(s: &[u8], at: usize) -> Found
-    ensures { λ r. ⌜ r ≡ recordAt (now (s .entry)) at ⌝ }
+// The reader at the next record; where there is no whole record, it stays.
+pub fn next<'a>(r: Reader<'a>) -> Reader<'a>
+    ensures { λ n. ⌜ n ≡ movedOn (r .entry) ⌝ }
 {
-    next(reader_at(s, at))
+    Reader {
+        stream: r.stream,
+        place: next_place(r.stream, r.place),
+    }
+}
+
+// What a reader at a place finds: of plain parameters, for covered code to call.
+pub fn found_at(s: &[u8], at: usize) -> Found
+    ensures { λ r. ⌜ foundSaid r ≡ toldAt (now (s .entry)) at ⌝ }
+{
+    found_by(reader_at(s, at))
 }

@@ -2,7 +2,8 @@
 ghost use mathlib.Core.Path.{_≡_};
 ghost use Prim.Native.Nat.{_+_, _^_, _≤_, _<_, min};
 ghost use lib.ListN.{length, getD};
-ghost use Rattle.records.specs.Records.{numberAt, recordAt};
+ghost use Rattle.records.specs.Answers.{foundSaid, toldAt};
+ghost use Rattle.records.specs.Records.{numberAt, recordAt, nextPlace};
 use crate::kinds::body_length;
 use records::Found;
 
@@ -53,7 +54,7 @@ fn wide(b: u8) -> u64
 
 // What stands at a place.
 pub fn record_at(s: &[u8], at: usize) -> Found
-    ensures { λ r. ⌜ r ≡ recordAt (now (s .entry)) at ⌝ }
+    ensures { λ r. ⌜ foundSaid r ≡ toldAt (now (s .entry)) at ⌝ }
 {
     if s.len() <= at {
         return Found::End;
@@ -71,5 +72,19 @@ pub fn record_at(s: &[u8], at: usize) -> Found
         kind: kind,
         body: body,
         next: body + n,
+    }
+}
+
+// The place of the next record, or this one where no whole record stands.
+pub(crate) fn next_place(s: &[u8], at: usize) -> usize
+    ensures { λ r. ⌜ r ≡ nextPlace (recordAt (now (s .entry)) at) at ⌝ }
+{
+    match record_at(s, at) {
+        Found::Whole {
+            kind: _,
+            body: _,
+            next,
+        } => next,
+        _ => at,
     }
 }

@@ -1,5 +1,6 @@
 -- The laws of records, for the calls and for the crates above, and worked examples.
 pub mod Steps
+pub mod Answers
 pub mod Parts
 pub mod Readers
 mod Examples

@@ -28,3 +28,10 @@ recordAt s at =
     (pick (eqb (bodyLength (getD s at 0)) 0) (Unknown (getD s at 0))
     (pick (ltb (length s - (at + 1)) (bodyLength (getD s at 0))) (Cut (getD s at 0))
     (Whole (getD s at 0) (at + 1) (at + 1 + bodyLength (getD s at 0)))))
+
+-- the place of the next record: after a whole one; at the end of the stream, at an unknown kind and at a cut record there is none, and it stays
+unfoldable pub nextPlace : Found → ℕ → ℕ
+nextPlace End at = at
+nextPlace (Unknown b) at = at
+nextPlace (Cut kind) at = at
+nextPlace (Whole kind body next) at = next

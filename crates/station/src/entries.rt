@@ -42,8 +42,8 @@ pub fn entry_count(p: Plan) -> usize
     live(p.n, 128)
 }
 
-// The entry of a number; an empty one where the plan has none.
-pub fn entry_of(p: Plan, k: usize) -> Entry
+// The entry of a number; an empty one where the plan has none, which no caller asks for.
+pub(crate) fn entry_of(p: Plan, k: usize) -> Entry
     ensures { λ r. ⌜ r ≡ getD (entriesOf p) k noEntry ⌝ }
 {
     if k < live(p.n, 128) {

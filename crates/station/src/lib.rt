@@ -18,7 +18,6 @@ pub use calls::remove_target;
 pub use calls::report_on;
 pub use calls::take_request;
 pub use entries::entry_count;
-pub use entries::entry_of;
 pub use histories::Answer;
 pub use histories::Plan;
 pub use histories::Reply;

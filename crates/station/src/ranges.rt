@@ -38,15 +38,9 @@ pub(crate) fn request_ranged(q: Request) -> bool
         return false;
     }
     let uf = byte(q.uf);
-    if !frames::surveillance(uf) {
-        return false;
-    }
     let pc = byte(q.pc);
     let rr = byte(q.rr);
     let di = byte(q.di);
     let sd = wide(q.sd);
-    if !frames::selective_ranged(uf, pc, rr, di, sd, q.ma, q.address) {
-        return false;
-    }
-    q.ma <= 0xFF_FFFF_FFFF_FFFF
+    frames::selective_ranged(uf, pc, rr, di, sd, q.ma, q.address)
 }

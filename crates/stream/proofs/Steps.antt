@@ -12,7 +12,7 @@ use Rattle.lists.specs.Lists.{pick}
 use Rattle.records.specs.declared.fields.Reply.{Reply}
 use Rattle.records.specs.declared.reading.Found.{Found}
 use Rattle.records.specs.declared.reading.Found.the-variants.{End, Unknown, Cut, Whole}
-use Rattle.records.specs.Records.{messageLength, recordAt}
+use Rattle.records.specs.Records.{messageLength, recordAt, nextPlace}
 use Rattle.records.specs.Fields.{replyAt}
 use Rattle.records.proofs.Parts.{parts-in-order}
 use Rattle.histories.specs.declared.state.Station.{Station}
@@ -26,7 +26,7 @@ use Rattle.stream.specs.declared.step.Step.{Step}
 use Rattle.transcripts.specs.declared.run.Run.{Run}
 use Rattle.transcripts.proofs.Runs.{stays-ended, lays-nothing}
 use Rattle.transcripts.specs.Step.{Outcome, answered, repliedTo, replyTo, zeros, reportedTo, obeyed}
-use Rattle.transcripts.specs.Run.{outcome, goesOn, nextPlace, outcomeNow, linesNow, stepped, advanced, longest}
+use Rattle.transcripts.specs.Run.{outcome, goesOn, outcomeNow, linesNow, stepped, advanced, longest}
 use Rattle.stream.proofs.Lengths.{within-more, within-of}
 
 -- an outcome by another name

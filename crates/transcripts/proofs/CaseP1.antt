@@ -10,14 +10,14 @@ use Rattle.plans.specs.Fits.{clearOf, fits, first, place}
 use Rattle.plans.specs.Shares.{sharesFit, judged}
 use Rattle.plans.specs.Plan.{tried, pass, alone, turns, plan}
 use Rattle.fields.specs.Building.{selectiveRanged}
-use Rattle.records.specs.Records.{bodyLength, numberAt, recordAt}
+use Rattle.records.specs.Records.{bodyLength, numberAt, recordAt, nextPlace}
 use Rattle.records.specs.Fields.{eightAt}
 use Rattle.histories.specs.State.{blank, emptied}
 use Rattle.histories.specs.Calls.{setUp, targetRanged, requestRanged, unitFull, newTarget, requested, reported}
 use Rattle.histories.specs.Planning.{asked, boardFor, nextPlan}
 use Rattle.transcripts.specs.Lines.{line, answerLine, entryLine, entryLines, valueWord, ageWord, reportLine}
 use Rattle.transcripts.specs.Step.{obeyed}
-use Rattle.transcripts.specs.Run.{outcome, goesOn, nextPlace, textFrom, transcript}
+use Rattle.transcripts.specs.Run.{outcome, goesOn, textFrom, transcript}
 
 -- setup: L 20000, R 3000, limit 5, guarantees 2,1, ceilings 3,2, the rest 0
 abbrev setup : List ℕ

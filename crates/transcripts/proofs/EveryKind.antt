@@ -22,7 +22,7 @@ use Rattle.plans.specs.Told.{EntryShown, withoutIt, toldBy}
 use Rattle.fields.specs.Fields.{headOf}
 use Rattle.fields.specs.Shared.{drawn}
 use Rattle.fields.specs.Building.{selectiveRanged}
-use Rattle.records.specs.Records.{bodyLength, messageLength, numberAt, recordAt}
+use Rattle.records.specs.Records.{bodyLength, messageLength, numberAt, recordAt, nextPlace}
 use Rattle.records.specs.Fields.{eightAt}
 use Rattle.histories.specs.State as state
 use Rattle.histories.specs.Calls.{setUp, targetRanged, requestRanged, unitFull, newTarget, without, removed, moved, requested, reported}
@@ -32,7 +32,7 @@ use Rattle.histories.specs.History.{Call, setup, new, remove, move, request, pl
 use Rattle.histories.specs.Seen.{AC, ID, never, said, inForce, lastSaid}
 use Rattle.transcripts.specs.Lines.{line, answerLine, replyLine, entryLine, entryLines, valueWord, ageWord, reportLine}
 use Rattle.transcripts.specs.Step.{obeyed}
-use Rattle.transcripts.specs.Run.{outcome, goesOn, nextPlace, textFrom, transcript}
+use Rattle.transcripts.specs.Run.{outcome, goesOn, textFrom, transcript}
 use Rattle.transcripts.specs.Spelled.{callOf, called, placeOf, callsOf}
 use Rattle.transcripts.specs.Reader.{Shown, numbersOn, answerOn, shownIn, sixes, readOne, readTo, askedKnown, knownBy, lineOf, eventsBy}
 

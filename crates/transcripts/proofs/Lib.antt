@@ -7,5 +7,6 @@ pub mod Printed
 pub mod Stands
 pub mod ReadOff
 mod Examples
+pub mod Places
 mod CaseP1
 mod EveryKind

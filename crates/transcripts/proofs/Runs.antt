@@ -10,11 +10,11 @@ use borrow.Author.Tests.{le-leb, leb-false}
 use Rattle.lists.specs.Lists.{pick}
 use Rattle.records.specs.declared.reading.Found.{Found}
 use Rattle.records.specs.declared.reading.Found.the-variants.{End, Unknown, Cut, Whole}
-use Rattle.records.specs.Records.{bodyLength, recordAt}
+use Rattle.records.specs.Records.{bodyLength, recordAt, nextPlace}
 use Rattle.records.proofs.Steps.{whole-fits}
 use Rattle.histories.specs.declared.state.Station.{Station}
 use Rattle.transcripts.specs.declared.run.Run.{Run}
-use Rattle.transcripts.specs.Run.{outcome, goesOn, nextPlace, textFrom, transcript, begun, outcomeNow, linesNow, stepped, advanced, written, runAfter, room, longest, isFull, writtenLate}
+use Rattle.transcripts.specs.Run.{outcome, goesOn, textFrom, transcript, begun, outcomeNow, linesNow, stepped, advanced, written, runAfter, room, longest, isFull, writtenLate}
 
 -- ---- a step takes each byte at most once
 

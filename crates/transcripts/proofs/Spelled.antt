@@ -12,7 +12,7 @@ use Rattle.lists.proofs.Held.{all-take, all-drop}
 use Rattle.remainders.specs.Messages.{AreBytes}
 use Rattle.records.specs.declared.reading.Found.{Found}
 use Rattle.records.specs.declared.reading.Found.the-variants.{End, Unknown, Cut, Whole}
-use Rattle.records.specs.Records.{bodyLength, messageLength, numberAt, recordAt}
+use Rattle.records.specs.Records.{bodyLength, messageLength, numberAt, recordAt, nextPlace}
 use Rattle.records.proofs.Steps.{whole-fits}
 use Rattle.histories.specs.declared.state.Station.{Station}
 use Rattle.histories.specs.State.{entriesOf}
@@ -23,7 +23,7 @@ use Rattle.histories.specs.History.{Call, setup, new, remove, move, request, pl
 use Rattle.transcripts.specs.declared.run.Run.{Run}
 use Rattle.transcripts.specs.Lines.{answerLine, entryLines, reportLine}
 use Rattle.transcripts.specs.Step.{Outcome, obeyed, repliedTo, replyTo, zeros}
-use Rattle.transcripts.specs.Run.{outcome, goesOn, nextPlace, begun, outcomeNow, stepped, advanced, runAfter}
+use Rattle.transcripts.specs.Run.{outcome, goesOn, begun, outcomeNow, stepped, advanced, runAfter}
 use Rattle.transcripts.specs.Spelled.{bytesAt, callOf, called, placeOf, foundAfter, callsOf}
 use Rattle.transcripts.proofs.Runs.{stays-by}
 

@@ -7,7 +7,8 @@ use lib.ListN.{length, take}
 use Rattle.lists.specs.Lists.{pick}
 use Rattle.records.specs.declared.reading.Found.{Found}
 use Rattle.records.specs.declared.reading.Found.the-variants.{End, Unknown, Cut, Whole}
-use Rattle.records.specs.Records.{recordAt}
+use Rattle.records.specs.Records.{recordAt, nextPlace}
+use Rattle.records.specs.Answers.{foundNumber}
 use Rattle.histories.specs.declared.state.Station.{Station}
 use Rattle.histories.specs.State.{blank}
 use Rattle.histories.specs.Calls.{refused}
@@ -18,8 +19,8 @@ use Rattle.transcripts.specs.Step.{Outcome, answered, obeyed}
 -- as record n: nothing; "unknown record kind"; "record cut by the end of the stream"; what a whole record does
 unfoldable pub outcome : List ℕ → ℕ → Station → Found → Outcome
 outcome s n st End = record { lines = []; station = st }
-outcome s n st (Unknown b) = answered n b (refused 16 st)
-outcome s n st (Cut kind) = answered n kind (refused 17 st)
+outcome s n st (Unknown b) = answered n b (refused (foundNumber (Unknown b)) st)
+outcome s n st (Cut kind) = answered n kind (refused (foundNumber (Cut kind)) st)
 outcome s n st (Whole kind body next) = obeyed s n kind body st
 
 -- "kinds 16 and 17 of refusal end the run", as the end of the stream does
@@ -28,13 +29,6 @@ goesOn End = false
 goesOn (Unknown b) = false
 goesOn (Cut kind) = false
 goesOn (Whole kind body next) = true
-
--- the place of the next record
-unfoldable pub nextPlace : Found → ℕ → ℕ
-nextPlace End at = at
-nextPlace (Unknown b) at = at
-nextPlace (Cut kind) at = at
-nextPlace (Whole kind body next) at = next
 
 -- ---- the text of a stream
 -- the text of the records from a place on, the first of them being record n: at most k records

@@ -9,11 +9,11 @@ use Rattle.lists.specs.Lists.{pick}
 use Rattle.lists.specs.Checks.{given}
 use Rattle.records.specs.declared.reading.Found.{Found}
 use Rattle.records.specs.declared.reading.Found.the-variants.{End, Unknown, Cut, Whole}
-use Rattle.records.specs.Records.{numberAt, recordAt}
+use Rattle.records.specs.Records.{numberAt, recordAt, nextPlace}
 use Rattle.records.specs.Fields.{setupAt, edgesAt, addressAt, requestAt, tagAt}
 use Rattle.histories.specs.History.{Call, setup, new, remove, move, request, plan, reply, report, after}
 use Rattle.histories.specs.Numbers.{checks}
-use Rattle.transcripts.specs.Run.{outcome, goesOn, nextPlace}
+use Rattle.transcripts.specs.Run.{outcome, goesOn}
 
 -- "the first 64 KiB of standard input as the whole stream"
 abbrev pub streamOf : List ℕ → List ℕ

@@ -7,7 +7,7 @@ use borrow.Author.Needs.{needs}
 use Rattle.lists.proofs.Signed.{minus-kept}
 use Rattle.altitude_code.specs.Code.{M, Q, group, hundreds, fiveHundreds, feetBy25, feetBy100}
 use Rattle.altitude_code.specs.declared.code.Altitude.the-variants.{Feet}
-use Rattle.altitude_code.proofs.Answers.{says-range, says-none, says-metric, says-by25, says-illegal, says-by100}
+use Rattle.altitude_code.proofs.Answers.{says-range, says-none, says-metric, says-by25, says-illegal, says-by100, altitude-told}
 use Rattle.altitude.proofs.code.read.Statement.{statement}
 use Rattle.altitude.proofs.code.read.Tie as tie
 
@@ -28,16 +28,16 @@ not-25 : (c : tie.Else4) → Q (start (c .before .before .before .before) .args 
 not-25 c e = c .if4 .left (c .before .bit2 .ensures .0 ∙ e)
 
 returns : tie.Need-returns
-returns c = says-range _ (c .if1 .taken)
+returns c = altitude-told _ _ (says-range _ (c .if1 .taken))
 
 returns-2 : tie.Need-returns-2
-returns-2 c = says-none _ (c .before .if1 .left) (c .if2 .taken)
+returns-2 c = altitude-told _ _ (says-none _ (c .before .if1 .left) (c .if2 .taken))
 
 bit-requires : tie.Need-bit-requires
 bit-requires c κs = search needs
 
 returns-3 : tie.Need-returns-3
-returns-3 c = says-metric _ (in-range (c .before .before)) (not-zero (c .before .before)) (sym (c .before .bit .ensures .0) ∙ c .if3 .taken)
+returns-3 c = altitude-told _ _ (says-metric _ (in-range (c .before .before)) (not-zero (c .before .before)) (sym (c .before .bit .ensures .0) ∙ c .if3 .taken))
 
 bit-requires-2 : tie.Need-bit-requires-2
 bit-requires-2 c κs = search needs
@@ -58,8 +58,9 @@ returns-4 c =
     let e = t .before .before in
     let ac = start (e .before .before) .args .ac in
     let n = c .before .eleven-bits in
-    ap Feet (minus-kept (25 * n .result) 1000 (omega arith) (omega arith) (c .signed .result) (c .signed .ensures) ∙ ap (λ (k : ℕ). subℕ (25 * k) 1000) (n .ensures .0))
-    ∙ says-by25 ac (in-range (e .before .before)) (not-zero (e .before .before)) (not-metric e) (sym (t .before .bit2 .ensures .0) ∙ t .if4 .taken)
+    altitude-told ac _
+    (ap Feet (minus-kept (25 * n .result) 1000 (omega arith) (omega arith) (c .signed .result) (c .signed .ensures) ∙ ap (λ (k : ℕ). subℕ (25 * k) 1000) (n .ensures .0))
+    ∙ says-by25 ac (in-range (e .before .before)) (not-zero (e .before .before)) (not-metric e) (sym (t .before .bit2 .ensures .0) ∙ t .if4 .taken))
 
 pattern-requires : tie.Need-pattern-requires
 pattern-requires c κs = search needs
@@ -67,7 +68,7 @@ pattern-requires c κs = search needs
 returns-5 : tie.Need-returns-5
 returns-5 c =
     let e = c .before .before .before .before in
-    says-illegal _ (in-range (e .before .before)) (not-zero (e .before .before)) (not-metric e) (not-25 (c .before .before)) (sym (c .before .pattern .ensures .0) ∙ c .if5 .taken)
+    altitude-told _ _ (says-illegal _ (in-range (e .before .before)) (not-zero (e .before .before)) (not-metric e) (not-25 (c .before .before)) (sym (c .before .pattern .ensures .0) ∙ c .if5 .taken))
 
 five-hundreds-requires : tie.Need-five-hundreds-requires
 five-hundreds-requires c κs = search needs
@@ -96,8 +97,9 @@ returns-6 c =
     let n = c .before .before .five-hundreds in
     let h = c .before .hundreds-in in
     let up : 500 * n .result + 100 * h .result ≡ 500 * fiveHundreds ac + 100 * hundreds (fiveHundreds ac) (group ac) = simp (h .ensures .0, n .ensures .0, p .pattern .ensures .0) in
-    ap Feet (minus-kept (500 * n .result + 100 * h .result) 1300 (omega arith) (omega arith) (c .signed2 .result) (c .signed2 .ensures) ∙ ap (λ (k : ℕ). subℕ k 1300) up)
-    ∙ says-by100 ac (in-range (e .before .before)) (not-zero (e .before .before)) (not-metric e) (not-25 (p .before)) (λ z. c .before .before .before .if5 .left (p .pattern .ensures .0 ∙ z))
+    altitude-told ac _
+    (ap Feet (minus-kept (500 * n .result + 100 * h .result) 1300 (omega arith) (omega arith) (c .signed2 .result) (c .signed2 .ensures) ∙ ap (λ (k : ℕ). subℕ k 1300) up)
+    ∙ says-by100 ac (in-range (e .before .before)) (not-zero (e .before .before)) (not-metric e) (not-25 (p .before)) (λ z. c .before .before .before .if5 .left (p .pattern .ensures .0 ∙ z)))
 
 pub read-spec : {M : Type 1} → statement M
 read-spec =

@@ -1,4 +1,5 @@
 -- `put_answer` lays the answer's number and its value.
+use Rattle.altitude_code.proofs.Answers.{altitude-is}
 use Rattle.feet_lines.proofs.Texts.{answer-put}
 use borrow.Author.Needs.{needs}
 use Rattle.feet_lines.proofs.lines.put_answer.Statement.{statement}
@@ -20,7 +21,7 @@ same-length : tie.Need-same-length
 same-length c = search needs
 
 returns : tie.Need-returns
-returns c = answer-put _ (c .before .before .before .before .before .before .before .before .before .read .ensures) (c .before .before .before .before .before .before .before .number .ensures) (c .before .before .before .before .before .before .put-decimal .ensures) (c .before .before .put-value .ensures)
+returns c = answer-put _ (altitude-is _ (c .before .before .before .before .before .before .before .before .before .read .result) (c .before .before .before .before .before .before .before .before .before .read .ensures)) (c .before .before .before .before .before .before .before .number .ensures) (c .before .before .before .before .before .before .put-decimal .ensures) (c .before .before .put-value .ensures)
 
 pub put-answer-spec : {M : Type 1} → statement M
 put-answer-spec =

@@ -6,7 +6,7 @@ use native.Mathlib.Omega.{arith}
 use lib.Dec.{leb}
 use borrow.Author.Tests.{leb-true, le-leb, lt-leb, eq-eqb, ne-eqb, not-true, not-false}
 use Rattle.lists.proofs.Tests.{and-true}
-use Rattle.fields.specs.Shared.{codeFor}
+use Rattle.fields.specs.Shared.{codeFor, codeTold}
 use borrow.Author.Needs.{needs}
 use Rattle.frames.proofs.codes.code_for.Statement.{statement}
 use Rattle.frames.proofs.codes.code_for.Tie as tie
@@ -18,21 +18,21 @@ at-most c =
     leb-true cl 4 (and-true (leb 1 cl) (leb cl 4) (sym (c .before .of-si .ensures) ∙ not-false _ (c .if3 .left)) .1)
 
 returns : tie.Need-returns
-unfolding codeFor
+unfolding codeFor codeTold
 returns c = simp (lt-leb _ _ (c .if1 .taken))
 
 cast-t5 : tie.Need-cast-t5
 cast-t5 c = search needs
 
 returns-2 : tie.Need-returns-2
-unfolding codeFor
+unfolding codeFor codeTold
 returns-2 c = simp (le-leb _ _ (c .before .if1 .left), eq-eqb _ _ (c .if2 .taken))
 
 of-si-requires : tie.Need-of-si-requires
 of-si-requires c κs = search needs
 
 returns-3 : tie.Need-returns-3
-unfolding codeFor
+unfolding codeFor codeTold
 returns-3 c = simp (le-leb _ _ (c .before .before .before .if1 .left), ne-eqb _ _ (c .before .before .if2 .left), sym (c .before .of-si .ensures) ∙ not-true _ (c .if3 .taken))
 
 sub-si : tie.Need-sub-si
@@ -45,14 +45,14 @@ add-si : tie.Need-add-si
 add-si c = omega (arith, at-most c)
 
 returns-4 : tie.Need-returns-4
-unfolding codeFor
+unfolding codeFor codeTold
 returns-4 c = simp (le-leb _ _ (c .before .before .before .before .if1 .left), ne-eqb _ _ (c .before .before .before .if2 .left), sym (c .before .before .of-si .ensures) ∙ not-false _ (c .before .if3 .left), eq-eqb _ _ (c .if4 .taken))
 
 cast-t9 : tie.Need-cast-t9
 cast-t9 c = omega (arith, at-most (c .before))
 
 returns-5 : tie.Need-returns-5
-unfolding codeFor
+unfolding codeFor codeTold
 returns-5 c = simp (le-leb _ _ (c .before .before .before .before .if1 .left), ne-eqb _ _ (c .before .before .before .if2 .left), sym (c .before .before .of-si .ensures) ∙ not-false _ (c .before .if3 .left), ne-eqb _ _ (c .if4 .left))
 
 pub code-for-spec : {M : Type 1} → statement M

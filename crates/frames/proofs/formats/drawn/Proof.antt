@@ -4,7 +4,8 @@ use mathlib.Core.Path.{sym, ap, _∙_}
 use Prim.Native.Nat.{ℕ, _+_}
 use native.Mathlib.Omega.{arith}
 use borrow.Author.Tests.{le-leb, lt-leb, not-true, not-false}
-use Rattle.fields.specs.Shared.{drawn}
+use Rattle.fields.specs.Answers.{drawsSaid}
+use Rattle.fields.specs.Shared.{drawn, drawnTold}
 use Rattle.fields.specs.declared.answers.Draws.the-variants.{Format}
 use borrow.Author.Needs.{needs}
 use Rattle.frames.proofs.formats.drawn.Statement.{statement}
@@ -14,11 +15,11 @@ surveillance-requires : tie.Need-surveillance-requires
 surveillance-requires c κs = search needs
 
 returns : tie.Need-returns
-unfolding drawn
+unfolding drawn drawnTold
 returns c = simp (sym (c .before .surveillance .ensures) ∙ not-true _ (c .if1 .taken))
 
 returns-2 : tie.Need-returns-2
-unfolding drawn
+unfolding drawn drawnTold
 returns-2 c = simp (sym (c .before .before .surveillance .ensures) ∙ not-false _ (c .before .if1 .left), lt-leb _ _ (c .if2 .taken))
 
 short-reply-requires : tie.Need-short-reply-requires
@@ -28,15 +29,15 @@ add-t6 : tie.Need-add-t6
 add-t6 c = omega (arith, c .short-reply .ensures .1)
 
 returns-3 : tie.Need-returns-3
-unfolding drawn
-returns-3 c = simp (sym (c .before .before .before .before .surveillance .ensures) ∙ not-false _ (c .before .before .before .if1 .left), le-leb _ _ (c .before .before .if2 .left), le-leb _ _ (c .before .if3 .taken)) (ap (λ (n : ℕ). Format (n + 16)) (c .short-reply .ensures .0))
+unfolding drawn drawnTold
+returns-3 c = simp (sym (c .before .before .before .before .surveillance .ensures) ∙ not-false _ (c .before .before .before .if1 .left), le-leb _ _ (c .before .before .if2 .left), le-leb _ _ (c .before .if3 .taken)) (ap (λ (n : ℕ). drawsSaid (Format (n + 16))) (c .short-reply .ensures .0))
 
 short-reply-requires-2 : tie.Need-short-reply-requires-2
 short-reply-requires-2 c κs = search needs
 
 returns-4 : tie.Need-returns-4
-unfolding drawn
-returns-4 c = simp (sym (c .before .before .before .before .surveillance .ensures) ∙ not-false _ (c .before .before .before .if1 .left), le-leb _ _ (c .before .before .if2 .left), lt-leb _ _ (c .before .if3 .left)) (ap Format (c .short-reply2 .ensures .0))
+unfolding drawn drawnTold
+returns-4 c = simp (sym (c .before .before .before .before .surveillance .ensures) ∙ not-false _ (c .before .before .before .if1 .left), le-leb _ _ (c .before .before .if2 .left), lt-leb _ _ (c .before .if3 .left)) (ap (λ (n : ℕ). drawsSaid (Format n)) (c .short-reply2 .ensures .0))
 
 pub drawn-spec : {M : Type 1} → statement M
 drawn-spec =

@@ -1,6 +1,7 @@
 -- `model::all_calls::answer_all_call` meets its contract: by its code and the draw.
 -- Assumes nothing.
 use borrow.Author.Tests.{not-true, not-false}
+use Rattle.fields.proofs.Unique.{code-is}
 use Rattle.model.proofs.Steps.{unanswered, answered}
 use borrow.Author.Needs.{needs}
 use Rattle.model.proofs.all_calls.answer_all_call.Statement.{statement}
@@ -16,7 +17,7 @@ silence-requires : tie.Need-silence-requires
 silence-requires c κs = search needs
 
 returns : tie.Need-returns
-returns c = unanswered _ (c .before .before .before .before .args .t) _ _ _ _ _ _ (c .before .before .before .code-for .ensures) (c .before .before .answers-code .ensures) (not-true _ (c .before .if1 .taken)) (c .silence .ensures)
+returns c = unanswered _ (c .before .before .before .before .args .t) _ _ _ _ _ _ (code-is _ _ (c .before .before .before .code-for .result) (c .before .before .before .code-for .ensures)) (c .before .before .answers-code .ensures) (not-true _ (c .before .if1 .taken)) (c .silence .ensures)
 
 cast-send-all-call : tie.Need-cast-send-all-call
 cast-send-all-call c = search needs
@@ -25,7 +26,7 @@ send-all-call-requires : tie.Need-send-all-call-requires
 send-all-call-requires c κs = search needs
 
 returns-2 : tie.Need-returns-2
-returns-2 c = answered _ (c .before .before .before .before .before .args .t) _ _ _ _ _ _ (c .before .before .before .before .code-for .ensures) (c .before .before .before .answers-code .ensures) (not-false _ (c .before .before .if1 .left)) (c .send-all-call .ensures)
+returns-2 c = answered _ (c .before .before .before .before .before .args .t) _ _ _ _ _ _ (code-is _ _ (c .before .before .before .before .code-for .result) (c .before .before .before .before .code-for .ensures)) (c .before .before .before .answers-code .ensures) (not-false _ (c .before .before .if1 .left)) (c .send-all-call .ensures)
 
 pub answer-all-call-spec : {M : Type 1} → statement M
 answer-all-call-spec =

@@ -1,6 +1,7 @@
 -- `model::responses::respond` meets its contract: the format that is drawn, with the fields as they are.
 -- Assumes nothing.
 use mathlib.Core.Path.{sym, _∙_}
+use Rattle.fields.proofs.Unique.{drawn-is}
 use Rattle.model.proofs.Steps.{responded, not-drawn}
 use borrow.Author.Needs.{needs}
 use Rattle.model.proofs.responses.respond.Statement.{statement}
@@ -43,10 +44,10 @@ silence-requires : tie.Need-silence-requires
 silence-requires c κs = search needs
 
 returns : tie.Need-returns
-returns c = responded _ (c .before .before .before .before .before .before .before .before .before .before .args .t) _ _ _ _ _ _ _ _ _ (sym (c .before .before .before .before .before .drawn .ensures) ∙ c .before .before .before .df .given .1) (c .before .before .before .before .before .before .before .before .before .dr-of .ensures) (c .before .before .before .before .before .before .before .before .um-of .ensures) (c .before .before .before .before .before .before .value-of .ensures) (c .before .before .before .before .before .before .before .mb-of .ensures) (c .send .ensures)
+returns c = responded _ (c .before .before .before .before .before .before .before .before .before .before .args .t) _ _ _ _ _ _ _ _ _ (sym (drawn-is _ _ (c .before .before .before .before .before .drawn .result) (c .before .before .before .before .before .drawn .ensures)) ∙ c .before .before .before .df .given .1) (c .before .before .before .before .before .before .before .before .before .dr-of .ensures) (c .before .before .before .before .before .before .before .before .um-of .ensures) (c .before .before .before .before .before .before .value-of .ensures) (c .before .before .before .before .before .before .before .mb-of .ensures) (c .send .ensures)
 
 returns-2 : tie.Need-returns-2
-returns-2 c = not-drawn _ (c .before .before .before .before .before .before .before .before .args .t) _ _ _ _ (sym (c .before .before .before .drawn .ensures) ∙ c .before .enum-told .given .1) (c .silence .ensures)
+returns-2 c = not-drawn _ (c .before .before .before .before .before .before .before .before .args .t) _ _ _ _ (sym (drawn-is _ _ (c .before .before .before .drawn .result) (c .before .before .before .drawn .ensures)) ∙ c .before .enum-told .given .1) (c .silence .ensures)
 
 pub respond-spec : {M : Type 1} → statement M
 respond-spec =

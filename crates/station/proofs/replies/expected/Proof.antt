@@ -2,6 +2,7 @@
 -- Assumes nothing.
 use mathlib.Core.Path.{_≡_, sym, ap, _∙_}
 use Rattle.fields.specs.Shared.{drawn}
+use Rattle.fields.proofs.Unique.{drawn-is}
 use Rattle.histories.specs.Replies.{formatIn, expected}
 use borrow.Author.Needs.{needs}
 use Rattle.station.proofs.replies.expected.Statement.{statement}
@@ -24,12 +25,12 @@ enum-told c = search needs
 
 returns : tie.Need-returns
 unfolding expected
-returns c = let e : c .before .before .before .drawn .result ≡ drawn (c .before .before .before .before .before .before .args .q .uf) (c .before .before .before .before .before .before .args .q .rr) = c .before .before .before .drawn .ensures ∙ (rw (c .before .before .before .before .before .byte .ensures, c .before .before .before .before .byte2 .ensures)) in
+returns c = let e : c .before .before .before .drawn .result ≡ drawn (c .before .before .before .before .before .before .args .q .uf) (c .before .before .before .before .before .before .args .q .rr) = drawn-is _ _ (c .before .before .before .drawn .result) (c .before .before .before .drawn .ensures) ∙ (rw (c .before .before .before .before .before .byte .ensures, c .before .before .before .before .byte2 .ensures)) in
     ap formatIn (sym (c .before .d .given .1) ∙ e)
 
 returns-2 : tie.Need-returns-2
 unfolding expected
-returns-2 c = let e : c .before .before .drawn .result ≡ drawn (c .before .before .before .before .before .args .q .uf) (c .before .before .before .before .before .args .q .rr) = c .before .before .drawn .ensures ∙ (rw (c .before .before .before .before .byte .ensures, c .before .before .before .byte2 .ensures)) in
+returns-2 c = let e : c .before .before .drawn .result ≡ drawn (c .before .before .before .before .before .args .q .uf) (c .before .before .before .before .before .args .q .rr) = drawn-is _ _ (c .before .before .drawn .result) (c .before .before .drawn .ensures) ∙ (rw (c .before .before .before .before .byte .ensures, c .before .before .before .byte2 .ensures)) in
     ap formatIn (sym (c .enum-told .given .1) ∙ e)
 
 pub expected-spec : {M : Type 1} → statement M
