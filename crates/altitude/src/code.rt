@@ -2,8 +2,8 @@
 ghost use mathlib.Core.Path.{_≡_};
 ghost use Prim.Native.Nat.{_+_, _*_, _≤_, _<_};
 ghost use lib.IntN.{subℕ};
-ghost use Rattle.altitude_code.specs.Code.{bitAt, eleven, eight, grayValue, fiveHundreds, group, hundreds, numberOf, altitudeSaid, altitudeTold};
-use altitude_code::Altitude;
+ghost use Rattle.altitude_rules.specs.Code.{bitAt, eleven, eight, grayValue, fiveHundreds, group, hundreds, altitudeNumber, altitudeSaid, altitudeTold};
+use altitude_rules::Altitude;
 
 // The places of AC's bits, the last being 0. Q's place is that of D1, which the 100 ft code leaves unused.
 const C1: u32 = 12;
@@ -132,7 +132,7 @@ pub fn read(ac: u32) -> Altitude
 
 // The number that an answer is given.
 pub fn number(a: Altitude) -> u32
-    ensures { λ r. ⌜ r ≡ numberOf a ⌝ }
+    ensures { λ r. ⌜ r ≡ altitudeNumber a ⌝ }
 {
     match a {
         Altitude::Feet(_) => 0,

@@ -7,10 +7,10 @@ fn main() {
     let got = io::read_full(STDIN_FILENO, &mut input);
     let s = &input[..got];
     let mut text = [0u8; 512];
-    let mut aircraft = aircraft::none();
+    let mut aircraft = console_aircraft::none();
     let mut at: usize = 0;
     while at < s.len() {
-        let r = calls::console_line(aircraft, s, at, &mut text);
+        let r = console_lines::console_line(aircraft, s, at, &mut text);
         let size = r.size;
         io::write_all(STDOUT_FILENO, &text[..size]);
         aircraft = r.aircraft;

@@ -1,10 +1,9 @@
 -- An outcome is unique: a number and a buffer that say the same outcome are the same.
--- Assumes nothing.
 use mathlib.Core.Path.{_≡_, ap}
 use mathlib.Core.List.{List}
 use Prim.Native.Nat.{ℕ, _/_, _%_}
 use native.Mathlib.Omega.{arith}
-use Rattle.remainders.specs.Answers.{Outcome}
+use Rattle.parity_rules.specs.Answers.{Outcome}
 use Rattle.exports.specs.Packed.{opened}
 
 pub opened-one : (r q : ℕ) (o p : List ℕ) → opened r o ≡ opened q p → (r ≡ q) × (o ≡ p)

@@ -1,10 +1,9 @@
 -- An answer as one number of 64 bits: document 01's number above, the value or the flips in the low 32 bits.
--- Assumes nothing: these are definitions.
 use Prim.Native.Nat.{ℕ, _+_, _*_, _/_, _%_}
 use mathlib.Core.List.{List}
 use mathlib.Core.Path.{_≡_}
-use Rattle.remainders.specs.declared.answers.Fix.{Fix}
-use Rattle.remainders.specs.Answers.{Answer, Outcome, numberOf, flipsOf}
+use Rattle.parity_rules.specs.declared.answers.Fix.{Fix}
+use Rattle.parity_rules.specs.Answers.{Answer, Outcome, fixNumber, flipsOf}
 
 -- an answer's number and value
 abbrev pub packed : Answer → ℕ
@@ -16,5 +15,5 @@ opened r out = record { number = r / 4294967296; flips = r % 4294967296; output 
 
 -- p has a correction's number above and its flips below
 pub record Packs (p : ℕ) (f : Fix) : Type 0 where
-  pub number : p / 4294967296 ≡ numberOf f
+  pub number : p / 4294967296 ≡ fixNumber f
   pub flips : p % 4294967296 ≡ flipsOf f

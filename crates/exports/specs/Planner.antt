@@ -1,9 +1,9 @@
 -- A plan's answer as rows of numbers.
 use Prim.Native.Nat.{ℕ}
 use mathlib.Core.List.{List, map}
-use Rattle.plans.specs.declared.entry.Entry.{Entry}
-use Rattle.plans.specs.declared.plan.Planned.{Planned}
-use Rattle.plans.specs.Exchange.{entryAt}
+use Rattle.planner_rules.specs.declared.entry.Entry.{Entry}
+use Rattle.planner_rules.specs.declared.plan.Planned.{Planned}
+use Rattle.planner_rules.specs.Exchange.{entryAt}
 use Rattle.exports.specs.declared.planning.PlanRows.{PlanRows}
 
 -- an entry of zeros

@@ -1,9 +1,9 @@
 // The calls of parity for programs in other languages. An answer is one number: that of document 01 times 2^32 plus the value or the flips.
 ghost use mathlib.Core.Path.{_≡_};
-ghost use Rattle.remainders.specs.Answers.{answered};
-ghost use Rattle.remainders.specs.Division.{remainderAnswer};
-ghost use Rattle.remainders.specs.Overlays.{uplinkOverlay, codeOverlay};
-ghost use Rattle.remainders.specs.Correction.{correction};
+ghost use Rattle.parity_rules.specs.Answers.{answered};
+ghost use Rattle.parity_rules.specs.Division.{remainderAnswer};
+ghost use Rattle.parity_rules.specs.Overlays.{uplinkOverlay, codeOverlay};
+ghost use Rattle.parity_rules.specs.Correction.{correction};
 ghost use Rattle.exports.specs.Packed.{packed, opened, Packs};
 use parity::Fix;
 use parity::Reckoned;

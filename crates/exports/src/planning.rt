@@ -1,13 +1,13 @@
 // A plan through C, for the bench: setup and waiting list in, the starts and the MA of the entries out.
 ghost use mathlib.Core.Path.{_≡_};
 ghost use lib.ListN.{replicate};
-ghost use Rattle.plans.specs.Plan.{plan, asksOf, planned};
+ghost use Rattle.planner_rules.specs.Plan.{plan, asksOf, inSlots};
 ghost use Rattle.exports.specs.Planner.{noEntry, startsOf, numbersOf, rowsOf};
-use plans::Ask;
-use plans::Asks;
-use plans::Entry;
-use plans::Request;
-use plans::Setup;
+use planner_rules::Ask;
+use planner_rules::Asks;
+use planner_rules::Entry;
+use planner_rules::Request;
+use planner_rules::Setup;
 
 #[repr(C)]
 pub struct PlanJob {
@@ -73,7 +73,7 @@ fn numbers_of(entries: [Entry; 128]) -> [u64; 128]
 
 #[no_mangle]
 pub extern "C" fn jerungkal_plan(j: PlanJob) -> PlanRows
-    ensures { λ r. ⌜ r ≡ rowsOf (planned (plan (j .setup) (asksOf (j .asks))) (replicate 128 noEntry) (j .asks .list)) ⌝ }
+    ensures { λ r. ⌜ r ≡ rowsOf (inSlots (plan (j .setup) (asksOf (j .asks))) (replicate 128 noEntry) (j .asks .list)) ⌝ }
 {
     let s = j.setup;
     let w = j.asks;

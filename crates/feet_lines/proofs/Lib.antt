@@ -1,3 +1,2 @@
--- The laws of the crate: the texts of feet, and a whole run.
+-- The laws of the crate: the texts of feet from the parts that the code lays.
 pub mod Texts
-pub mod Run

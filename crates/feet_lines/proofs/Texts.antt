@@ -4,17 +4,17 @@ use mathlib.Core.Path.{_≡_}
 use mathlib.Core.List.{List, [], _∷_}
 use lib.IntN.{ℤ}
 use lib.ListN.{take, drop}
-use Rattle.letters.specs.Put.{decimal, Put}
-use Rattle.letters.specs.Signed.{signedDecimal}
-use Rattle.letters.specs.Line.{wordsOf, wordAt, within}
-use Rattle.letters.specs.Number.{numberIn}
-use Rattle.letters.proofs.Laid.{put-then}
-use Rattle.letters.proofs.Words.{words-next, words-end}
-use Rattle.letters.specs.declared.answer.Span.{Span}
-use Rattle.altitude_code.specs.declared.code.Altitude.{Altitude}
-use Rattle.altitude_code.specs.declared.code.Altitude.the-variants.{Feet}
-use Rattle.altitude_code.specs.Code.{altitude, numberOf}
-use Rattle.feet_lines.specs.Lines.{valueText, answerText, codeText, noCode, numberText, wordsText, lineText}
+use Rattle.text_rules.specs.Put.{decimal, Put}
+use Rattle.text_rules.specs.Signed.{signedDecimal}
+use Rattle.text_rules.specs.Line.{wordsOf, wordAt, within}
+use Rattle.text_rules.specs.Number.{numberIn}
+use Rattle.text_rules.proofs.Laid.{put-then}
+use Rattle.text_rules.proofs.Words.{words-next, words-end}
+use Rattle.text_rules.specs.declared.answer.Span.{Span}
+use Rattle.altitude_rules.specs.declared.code.Altitude.{Altitude}
+use Rattle.altitude_rules.specs.declared.code.Altitude.the-variants.{Feet}
+use Rattle.altitude_rules.specs.Code.{altitude, altitudeNumber}
+use Rattle.console_rules.specs.FeetLines.{valueText, answerText, codeText, noCode, numberText, wordsText, lineText}
 
 -- ---- a code's line
 
@@ -23,7 +23,7 @@ pub feet-put : {a : Altitude} {z : ℤ} {at r q p : ℕ} {l m o n : List ℕ} �
 unfolding valueText
 feet-put e x y w = rw e (put-then x (put-then y w))
 
-pub answer-put : (ac : ℕ) {k : ℕ} {a : Altitude} {at r q : ℕ} {l m o : List ℕ} → a ≡ altitude ac → k ≡ numberOf a
+pub answer-put : (ac : ℕ) {k : ℕ} {a : Altitude} {at r q : ℕ} {l m o : List ℕ} → a ≡ altitude ac → k ≡ altitudeNumber a
     → Put (decimal k) at l m r → Put (valueText a) r m o q → Put (answerText (altitude ac)) at l o q
 unfolding answerText
 answer-put ac e f x y = rw (← e, ← f) (put-then x y)

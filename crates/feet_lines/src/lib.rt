@@ -1,4 +1,4 @@
-// The lines of the program feet, as their very bytes.
+// The lines of the program feet, as their very bytes. Their definitions stand in crate console_rules.
 mod lines;
 
 pub use lines::feet_line;

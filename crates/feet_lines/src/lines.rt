@@ -1,13 +1,13 @@
 // The lines of the program feet, as their very bytes.
-ghost use Rattle.letters.specs.Put.{Put};
-ghost use Rattle.letters.specs.Run.{TookLine};
-ghost use Rattle.altitude_code.specs.Code.{altitude};
-ghost use Rattle.feet_lines.specs.Lines.{valueText, answerText, codeText, lineText};
+ghost use Rattle.text_rules.specs.Put.{Put};
+ghost use Rattle.text_rules.specs.Run.{TookLine};
+ghost use Rattle.altitude_rules.specs.Code.{altitude};
+ghost use Rattle.console_rules.specs.FeetLines.{valueText, answerText, codeText, lineText};
 use altitude::number;
 use altitude::read;
-use altitude_code::Altitude;
-use letters::Lined;
-use letters::Number;
+use altitude_rules::Altitude;
+use text_rules::Lined;
+use text_rules::Number;
 
 // What stands behind the answer's number, and the line's end.
 fn put_value(out: &mut [u8], at: usize, a: Altitude) -> usize

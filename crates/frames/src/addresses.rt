@@ -1,9 +1,9 @@
 // The address found again from an uplink remainder.
 ghost use mathlib.Core.Path.{_≡_};
 ghost use Prim.Native.Nat.{_<_};
-ghost use Rattle.fields.specs.Answers.{addressSaid};
-ghost use Rattle.fields.specs.Addresses.{quotientOf, addressTold};
-use fields::Address;
+ghost use Rattle.frames_rules.specs.Answers.{addressSaid};
+ghost use Rattle.frames_rules.specs.Addresses.{quotientOf, addressTold};
+use frames_rules::Address;
 
 // The quotient of a remainder times x^24 by the generator.
 fn quotient(remainder: u32) -> u32

@@ -1,20 +1,20 @@
 // Interrogations built into a lent buffer.
 ghost use mathlib.Core.Path.{_≡_};
 ghost use Prim.Native.Nat.{_<_};
-ghost use Rattle.fields.specs.Answers.{said};
-ghost use Rattle.fields.specs.Fields.{selectiveHead, allCallHead};
-ghost use Rattle.fields.specs.Building.{anAddress, selectiveRanged, allCallRanged, building, allCalling};
+ghost use Rattle.frames_rules.specs.Answers.{said};
+ghost use Rattle.frames_rules.specs.Fields.{selectiveHead, allCallHead};
+ghost use Rattle.frames_rules.specs.Building.{isAddress, selectiveRanged, allCallRanged, building, allCalling};
 use crate::bytes::number_of;
 use crate::formats::length_of;
 use crate::formats::long_format;
 use crate::formats::surveillance;
 use crate::frame::overlay_of;
 use crate::frame::write;
-use fields::Built;
+use frames_rules::Built;
 
 // Whether a number is an address: 1 to 16,777,214.
 pub fn an_address(a: u32) -> bool
-    ensures { λ r. ⌜ r ≡ anAddress a ⌝ }
+    ensures { λ r. ⌜ r ≡ isAddress a ⌝ }
 {
     if a == 0 {
         return false;

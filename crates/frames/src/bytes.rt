@@ -3,12 +3,12 @@ ghost use mathlib.Core.Path.{_≡_};
 ghost use lib.ListN.{length};
 ghost use lib.Seq.{sets};
 ghost use Prim.Native.Nat.{_+_, _*_, _^_, _<_, _≤_};
-ghost use Rattle.fields.specs.Bytes.{bytesOf, numberOf};
+ghost use Rattle.frames_rules.specs.Bytes.{bytesOf, numberOfBytes};
 
 // The number that some bytes are.
 pub(crate) fn number_of(s: &[u8]) -> u64
     requires { ⌜ length (now s) ≤ 7 ⌝ }
-    ensures { λ r. ⌜ (r ≡ numberOf (now (s .entry))) × (r < 2 ^ (8 * length (now (s .entry)))) ⌝ }
+    ensures { λ r. ⌜ (r ≡ numberOfBytes (now (s .entry))) × (r < 2 ^ (8 * length (now (s .entry)))) ⌝ }
 {
     let mut r: u64 = 0;
     let mut i: usize = 0;

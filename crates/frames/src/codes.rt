@@ -1,15 +1,15 @@
 // The codes: which interrogator CL and IC stand for, and whose code a DF 11 carries.
 ghost use mathlib.Core.Path.{_≡_};
 ghost use Prim.Native.Nat.{_<_};
-ghost use Rattle.fields.specs.Answers.{codeSaid, done, interrogatorSaid};
-ghost use Rattle.fields.specs.Codes.{stationRanged, whose, codeOf};
-ghost use Rattle.fields.specs.Shared.{ofSI, codeTold};
+ghost use Rattle.frames_rules.specs.Answers.{codeSaid, done, interrogatorSaid};
+ghost use Rattle.frames_rules.specs.Codes.{stationRanged, whose, codeOf};
+ghost use Rattle.frames_rules.specs.Shared.{ofSI, codeTold};
 use crate::frame::code_overlay;
 use crate::message::head_of;
 use crate::message::remainder_of;
 use crate::message::whole;
-use fields::Code;
-use fields::Interrogator;
+use frames_rules::Code;
+use frames_rules::Interrogator;
 
 // Whether CL is one of those of SI, 1 to 4.
 fn of_si(cl: u32) -> bool

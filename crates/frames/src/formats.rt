@@ -1,10 +1,10 @@
 // The formats: which are listed at which length, and which one a request draws.
 ghost use mathlib.Core.Path.{_≡_};
-ghost use Rattle.fields.specs.Answers.{drawsSaid};
-ghost use Rattle.fields.specs.Formats.{surveillance, longFormat, lengthOf, listed};
-ghost use Rattle.fields.specs.Shared.{shortReply, drawnTold};
+ghost use Rattle.frames_rules.specs.Answers.{drawsSaid};
+ghost use Rattle.frames_rules.specs.Formats.{surveillance, longFormat, lengthOf, listed};
+ghost use Rattle.frames_rules.specs.Shared.{shortReply, drawnTold};
 ghost use Prim.Native.Nat.{_≤_};
-use fields::Draws;
+use frames_rules::Draws;
 
 // Whether a format is one of 20 and 21.
 pub(crate) fn long_format(f: u32) -> bool

@@ -3,9 +3,9 @@ ghost use mathlib.Core.Path.{_≡_};
 ghost use mathlib.Core.Bool.{true};
 ghost use lib.ListN.{length};
 ghost use Prim.Native.Nat.{_<_};
-ghost use Rattle.remainders.specs.Messages.{whole, bits};
-ghost use Rattle.remainders.specs.Division.{remainderOf};
-ghost use Rattle.fields.specs.Fields.{headOf, midOf};
+ghost use Rattle.parity_rules.specs.Messages.{whole, bits};
+ghost use Rattle.parity_rules.specs.Division.{remainderOf};
+ghost use Rattle.frames_rules.specs.Fields.{headOf, midOf};
 use crate::bytes::number_of;
 use parity::Reckoned;
 

@@ -1,6 +1,6 @@
 // The MB bytes as a part of the caller's buffer.
 ghost use mathlib.Core.Path.{_≡_};
-ghost use Rattle.fields.specs.Reading.{mbPart};
+ghost use Rattle.frames_rules.specs.Reading.{mbPart};
 
 // The seven MB bytes of a long reply, without a copy; an empty part of a buffer that is not 14 bytes long.
 pub fn mb_part(buf: &[u8]) -> &[u8]

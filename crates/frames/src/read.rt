@@ -1,14 +1,14 @@
 // Interrogations and replies read alone: their fields and their remainder. No parity is judged.
 ghost use mathlib.Core.Path.{_≡_};
-ghost use Rattle.fields.specs.Answers.{upSaid, downSaid};
-ghost use Rattle.fields.specs.Reading.{selectiveRead, allCallRead, surveillanceRead, allCallReplyRead, readUp, readDown};
+ghost use Rattle.frames_rules.specs.Answers.{upSaid, downSaid};
+ghost use Rattle.frames_rules.specs.Reading.{selectiveRead, allCallRead, surveillanceRead, allCallReplyRead, readUp, readDown};
 use crate::formats::listed;
 use crate::message::head_of;
 use crate::message::mid_of;
 use crate::message::remainder_of;
 use crate::message::whole;
-use fields::Down;
-use fields::Up;
+use frames_rules::Down;
+use frames_rules::Up;
 
 // The fields of UF 4, 5, 20 or 21.
 fn selective(head: u32, ma: u64, remainder: u32) -> Up

@@ -1,16 +1,16 @@
 // Replies built into a lent buffer, as a transponder sends them.
 ghost use mathlib.Core.Path.{_≡_};
 ghost use Prim.Native.Nat.{_<_};
-ghost use Rattle.fields.specs.Answers.{said};
-ghost use Rattle.fields.specs.Fields.{replyHead, allCallReplyHead};
-ghost use Rattle.fields.specs.Building.{replyRanged, allCallReplyRanged, replying, allCallReplying};
+ghost use Rattle.frames_rules.specs.Answers.{said};
+ghost use Rattle.frames_rules.specs.Fields.{replyHead, allCallReplyHead};
+ghost use Rattle.frames_rules.specs.Building.{replyRanged, allCallReplyRanged, replying, allCallReplying};
 use crate::builders::an_address;
 use crate::formats::length_of;
 use crate::formats::long_format;
 use crate::formats::surveillance;
 use crate::frame::code_overlay;
 use crate::frame::write;
-use fields::Built;
+use frames_rules::Built;
 
 // Whether the numbers of a surveillance reply are in their ranges.
 fn reply_ranged(df: u32, fs: u32, dr: u32, um: u32, value: u32, mb: u64, address: u32) -> bool

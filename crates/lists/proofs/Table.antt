@@ -1,5 +1,4 @@
 -- A rule over the numbers below n, shown once by computation: the entries of a table, or two functions that are alike.
--- Assumes nothing.
 use mathlib.Core.Path.{_≡_, _∙_, ap, sym}
 use mathlib.Core.List.{List, [], _∷_}
 use Prim.Native.Nat.{ℕ, zero, suc, _+_, _<_}

@@ -1,5 +1,4 @@
 -- What a builder of frames answered, as what is sent; and what parity answered, as who a frame is for.
--- Assumes nothing.
 use Prim.Native.Nat.{ℕ}
 use native.Mathlib.Omega.{arith}
 use mathlib.Core.Path.{_≡_, refl, sym, ap, _∙_}
@@ -8,15 +7,15 @@ use mathlib.Core.List.{List}
 use lib.Dec.{eqb, ltb}
 use lib.ListN.{length}
 use Rattle.lists.specs.Lists.{pick}
-use Rattle.remainders.specs.Answers as reckoned
-use Rattle.remainders.specs.Overlays.{overlayOf, uplinkOverlay}
-use Rattle.remainders.specs.declared.answers.Reckoned.{Reckoned}
-use Rattle.remainders.specs.declared.answers.Reckoned.the-variants as is
-use Rattle.fields.specs.Answers.{Outcome, said}
-use Rattle.fields.specs.declared.answers.Built.{Built}
-use Rattle.fields.specs.declared.answers.Built.the-variants.{Done, Length, Range}
-use Rattle.transponder.specs.Replies.{silence, sentBytes, sending}
-use Rattle.transponder.specs.Calls.{laidOver}
+use Rattle.parity_rules.specs.Answers as reckoned
+use Rattle.parity_rules.specs.Overlays.{overlayOf, uplinkOverlay}
+use Rattle.parity_rules.specs.declared.answers.Reckoned.{Reckoned}
+use Rattle.parity_rules.specs.declared.answers.Reckoned.the-variants as is
+use Rattle.frames_rules.specs.Answers.{Outcome, said}
+use Rattle.frames_rules.specs.declared.answers.Built.{Built}
+use Rattle.frames_rules.specs.declared.answers.Built.the-variants.{Done, Length, Range}
+use Rattle.model_rules.specs.Replies.{silence, sentBytes, sending}
+use Rattle.model_rules.specs.Calls.{laidOver}
 use Rattle.model.proofs.Slots.{fourteen}
 
 -- ---- a frame that was built, or not

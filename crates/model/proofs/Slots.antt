@@ -1,5 +1,4 @@
 -- The parts of a transponder over plain variables: messages, bytes that are sent, timers, ranges.
--- Assumes nothing.
 use Prim.Native.Nat.{ℕ, _≤_}
 use native.Mathlib.Omega.{arith}
 use mathlib.Core.Path.{_≡_, refl, sym, ap}
@@ -8,15 +7,15 @@ use mathlib.Core.List.{List, [], _∷_, _++_, map, append-nil}
 use lib.Dec.{leb}
 use borrow.Author.Tests.{leb-true}
 use Rattle.lists.proofs.Tests.{and-true}
-use Rattle.fields.specs.Building.{anAddress}
-use Rattle.transponder.specs.declared.state.Lock.the-variants.{Since}
-use Rattle.transponder.specs.declared.state.Timer.{Timer}
-use Rattle.transponder.specs.declared.state.Timers.{Timers}
-use Rattle.transponder.specs.declared.state.Sent.{Sent}
-use Rattle.transponder.specs.State.{started}
-use Rattle.transponder.specs.Lapse.{timerAfter, timersAfter}
-use Rattle.transponder.specs.Replies.{sentBytes}
-use Rattle.transponder.specs.Calls.{makeRanged}
+use Rattle.frames_rules.specs.Building.{isAddress}
+use Rattle.model_rules.specs.declared.state.Lock.the-variants.{Since}
+use Rattle.model_rules.specs.declared.state.Timer.{Timer}
+use Rattle.model_rules.specs.declared.state.Timers.{Timers}
+use Rattle.model_rules.specs.declared.state.Sent.{Sent}
+use Rattle.model_rules.specs.State.{started}
+use Rattle.model_rules.specs.Lapse.{timerAfter, timersAfter}
+use Rattle.model_rules.specs.Replies.{sentBytes}
+use Rattle.model_rules.specs.Calls.{makeRanged}
 use lib.ListN.{length, getD, drop, set, replicate, drop-of-length-le}
 use lib.Seq.{drop-cons, set-out}
 use Rattle.lists.specs.Lists.{over}
@@ -63,8 +62,8 @@ started-none t place k time p h = rw (← p) (ap {B = Timers} (λ (x : List Time
 pub make-in : (address ac id fs ca : ℕ) → makeRanged address ac id fs ca ≡ true → (ac ≤ 8191) × (id ≤ 8191) × (fs ≤ 7) × (ca ≤ 7)
 unfolding makeRanged
 make-in address ac id fs ca h =
-    let t = and-true (anAddress address && leb ac 8191 && leb id 8191 && leb fs 7) (leb ca 7) h in
-    let u = and-true (anAddress address && leb ac 8191 && leb id 8191) (leb fs 7) (t .0) in
-    let v = and-true (anAddress address && leb ac 8191) (leb id 8191) (u .0) in
-    let w = and-true (anAddress address) (leb ac 8191) (v .0) in
+    let t = and-true (isAddress address && leb ac 8191 && leb id 8191 && leb fs 7) (leb ca 7) h in
+    let u = and-true (isAddress address && leb ac 8191 && leb id 8191) (leb fs 7) (t .0) in
+    let v = and-true (isAddress address && leb ac 8191) (leb id 8191) (u .0) in
+    let w = and-true (isAddress address) (leb ac 8191) (v .0) in
     (leb-true ac 8191 (w .1), leb-true id 8191 (v .1), leb-true fs 7 (u .1), leb-true ca 7 (t .1))

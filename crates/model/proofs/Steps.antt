@@ -1,5 +1,4 @@
 -- What each step comes to, check by check, over plain variables.
--- Assumes nothing.
 use Prim.Native.Nat.{ℕ, zero, suc, _<_, _≤_}
 use native.Mathlib.Omega.{arith}
 use mathlib.Core.Path.{_≡_, refl, sym, ap, _∙_}
@@ -7,33 +6,33 @@ use mathlib.Core.Bool.{Bool, true, false}
 use mathlib.Core.List.{List, [], _∷_}
 use borrow.Author.Tests.{eq-eqb, ne-eqb, le-leb, lt-leb}
 use lib.ListN.{length, getD, replicate, List·getD-eq-default}
-use Rattle.remainders.specs.Messages.{whole}
-use Rattle.fields.specs.Answers.{Answer, upSaid}
-use Rattle.fields.specs.Building.{replying, allCallReplying}
-use Rattle.fields.specs.Bytes.{numberOf}
-use Rattle.fields.specs.Shared.{codeFor}
-use Rattle.fields.specs.Formats.{lengthOf}
-use Rattle.fields.specs.Shared.{drawn}
-use Rattle.fields.specs.Reading.{readUp}
-use Rattle.fields.specs.declared.answers.Up.{Up}
-use Rattle.fields.specs.declared.answers.Up.the-variants as up
-use Rattle.fields.specs.declared.answers.Interrogator.{Interrogator}
-use Rattle.fields.specs.declared.answers.Draws.the-variants.{Format, Nothing}
-use Rattle.transponder.specs.declared.state.Timer.{Timer}
-use Rattle.transponder.specs.declared.state.Timers.{Timers}
-use Rattle.transponder.specs.declared.state.Holder.{Holder}
-use Rattle.transponder.specs.declared.state.Holder.the-variants.{Nobody, Held}
-use Rattle.transponder.specs.declared.state.Messages.{Messages}
-use Rattle.transponder.specs.declared.state.Transponder.{Transponder}
-use Rattle.transponder.specs.declared.state.Sent.{Sent}
-use Rattle.transponder.specs.declared.state.Went.{Went}
-use Rattle.transponder.specs.declared.state.Took.{Took}
-use Rattle.transponder.specs.State.{placeOf, idle, waiting, waits, messagesWith, messagesAfter, keeping, withMessages}
-use Rattle.transponder.specs.Lapse.{timersAfter, holderAfter, lapse}
-use Rattle.transponder.specs.Lockout.{iis, locks, lockedTo, lockout}
-use Rattle.transponder.specs.CommB.{asksToHold, nobodyElse, reserve, closes, closeout}
-use Rattle.transponder.specs.Replies.{silence, sending, drOf, umOf, mbOf, valueOf, respond, answersCode, answers, answerAllCall}
-use Rattle.transponder.specs.Calls.{queuing, steps, interrogated, laidOver, heardSelective, heardAllCall, heard, refusing, taking}
+use Rattle.parity_rules.specs.Messages.{whole}
+use Rattle.frames_rules.specs.Answers.{Answer, upSaid}
+use Rattle.frames_rules.specs.Building.{replying, allCallReplying}
+use Rattle.frames_rules.specs.Bytes.{numberOfBytes}
+use Rattle.frames_rules.specs.Shared.{codeFor}
+use Rattle.frames_rules.specs.Formats.{lengthOf}
+use Rattle.frames_rules.specs.Shared.{drawn}
+use Rattle.frames_rules.specs.Reading.{readUp}
+use Rattle.frames_rules.specs.declared.answers.Up.{Up}
+use Rattle.frames_rules.specs.declared.answers.Up.the-variants as up
+use Rattle.frames_rules.specs.declared.answers.Interrogator.{Interrogator}
+use Rattle.frames_rules.specs.declared.answers.Draws.the-variants.{Format, Nothing}
+use Rattle.model_rules.specs.declared.state.Timer.{Timer}
+use Rattle.model_rules.specs.declared.state.Timers.{Timers}
+use Rattle.model_rules.specs.declared.state.Holder.{Holder}
+use Rattle.model_rules.specs.declared.state.Holder.the-variants.{Nobody, Held}
+use Rattle.model_rules.specs.declared.state.Messages.{Messages}
+use Rattle.model_rules.specs.declared.state.Transponder.{Transponder}
+use Rattle.model_rules.specs.declared.state.Sent.{Sent}
+use Rattle.model_rules.specs.declared.state.Went.{Went}
+use Rattle.model_rules.specs.declared.state.Took.{Took}
+use Rattle.model_rules.specs.State.{placeOf, idle, waiting, waits, messagesWith, messagesAfter, keeping, withMessages}
+use Rattle.model_rules.specs.Lapse.{timersAfter, holderAfter, lapse}
+use Rattle.model_rules.specs.Lockout.{iis, locks, lockedTo, lockout}
+use Rattle.model_rules.specs.CommB.{asksToHold, nobodyElse, reserve, closes, closeout}
+use Rattle.model_rules.specs.Replies.{silence, sending, drOf, umOf, mbOf, valueOf, respond, answersCode, answers, answerAllCall}
+use Rattle.model_rules.specs.Calls.{queuing, steps, interrogated, laidOver, heardSelective, heardAllCall, heard, refusing, taking}
 
 -- ---- time
 pub lapse-is : (u t : Transponder) (now : ℕ) (x : Timers) (h : Holder) → x ≡ timersAfter now (t .timers) → h ≡ holderAfter now (t .holder) → u ≡ keeping t now x h (t .messages) → u ≡ lapse now t
@@ -152,7 +151,7 @@ module _ (t : Transponder) (m : List ℕ) where
     unfolding queuing
     queue-full h = rw (eq-eqb (length m) 7 n, le-leb 8 (length (waiting (t .messages))) h)
 
-    pub queued : (v : ℕ) (x : Messages) → length (waiting (t .messages)) < 8 → v ≡ numberOf m → x ≡ messagesWith v (t .messages) → record { number = 0; transponder = withMessages x t } ≡ queuing t m
+    pub queued : (v : ℕ) (x : Messages) → length (waiting (t .messages)) < 8 → v ≡ numberOfBytes m → x ≡ messagesWith v (t .messages) → record { number = 0; transponder = withMessages x t } ≡ queuing t m
     unfolding queuing
     queued v x h p q = rw (eq-eqb (length m) 7 n, lt-leb 8 (length (waiting (t .messages))) h, q, p)
 

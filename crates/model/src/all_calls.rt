@@ -1,12 +1,12 @@
 // The reply to an all-call.
 ghost use mathlib.Core.Path.{_≡_};
-ghost use Rattle.transponder.specs.Replies.{drawsBelow, free, answersFree, answersCode, answerAllCall};
+ghost use Rattle.model_rules.specs.Replies.{drawsBelow, free, answersFree, answersCode, answerAllCall};
 use crate::sending::send_all_call;
 use crate::sending::silence;
 use crate::timers::locked_to;
 use frames::Interrogator;
-use transponder::Sent;
-use transponder::Transponder;
+use model_rules::Sent;
+use model_rules::Transponder;
 
 // The draws that a PR lets answer: those below 16/2^p.
 fn draws_below(pr: u8) -> u32

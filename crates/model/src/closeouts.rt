@@ -1,11 +1,11 @@
 // The closeout of the first message.
 ghost use mathlib.Core.Path.{_≡_};
-ghost use Rattle.transponder.specs.CommB.{closesFor, closes, closeout};
+ghost use Rattle.model_rules.specs.CommB.{closesFor, closes, closeout};
 use crate::keeping::keeping;
 use crate::lockouts::iis;
 use crate::messages::drop_first;
-use transponder::Holder;
-use transponder::Transponder;
+use model_rules::Holder;
+use model_rules::Transponder;
 
 // Whether DI and SD close out what an II holds.
 fn closes_for(ii: u8, di: u8, sd: u16) -> bool

@@ -1,16 +1,16 @@
 // A frame is taken at a time, with a draw.
 ghost use mathlib.Core.Path.{_≡_};
-ghost use Rattle.remainders.specs.Messages.{whole};
-ghost use Rattle.fields.specs.Reading.{readUp};
-ghost use Rattle.transponder.specs.Calls.{heard, refusing, taking};
+ghost use Rattle.parity_rules.specs.Messages.{whole};
+ghost use Rattle.frames_rules.specs.Reading.{readUp};
+ghost use Rattle.model_rules.specs.Calls.{heard, refusing, taking};
 use crate::lapses::lapse;
 use crate::selective::heard_all_call;
 use crate::selective::heard_selective;
 use crate::sending::silence;
 use frames::Up;
-use transponder::Took;
-use transponder::Transponder;
-use transponder::Went;
+use model_rules::Took;
+use model_rules::Transponder;
+use model_rules::Went;
 
 // What a frame does once time has lapsed.
 fn hear(draw: u32, t: Transponder, frame: &[u8]) -> Went

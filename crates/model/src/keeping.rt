@@ -1,10 +1,10 @@
 // A transponder with another time, other timers, another holder, other messages.
 ghost use mathlib.Core.Path.{_≡_};
-ghost use Rattle.transponder.specs.State.{keeping};
-use transponder::Holder;
-use transponder::Messages;
-use transponder::Timers;
-use transponder::Transponder;
+ghost use Rattle.model_rules.specs.State.{keeping};
+use model_rules::Holder;
+use model_rules::Messages;
+use model_rules::Timers;
+use model_rules::Transponder;
 
 // What it was made with stays.
 pub(crate) fn keeping(

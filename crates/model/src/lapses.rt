@@ -1,12 +1,12 @@
 // Time lapses: timers and the reservation fall away, and leave no trace.
 ghost use mathlib.Core.Path.{_≡_};
-ghost use Rattle.transponder.specs.Lapse.{isOver, timerAfter, timersAfter, holderAfter, lapse};
+ghost use Rattle.model_rules.specs.Lapse.{isOver, timerAfter, timersAfter, holderAfter, lapse};
 use crate::keeping::keeping;
-use transponder::Holder;
-use transponder::Lock;
-use transponder::Timer;
-use transponder::Timers;
-use transponder::Transponder;
+use model_rules::Holder;
+use model_rules::Lock;
+use model_rules::Timer;
+use model_rules::Timers;
+use model_rules::Transponder;
 
 // Whether what began then is over by now.
 fn is_over(now: u32, since: u32) -> bool

@@ -1,10 +1,10 @@
 // The lockout commands of a frame.
 ghost use mathlib.Core.Path.{_≡_};
 ghost use Prim.Native.Nat.{_<_};
-ghost use Rattle.transponder.specs.Lockout.{iis, startedByLOS, startedByLSS, commandOfPC, commandOfSD, lockout};
+ghost use Rattle.model_rules.specs.Lockout.{iis, startedByLOS, startedByLSS, commandOfPC, commandOfSD, lockout};
 use crate::timers::start;
 use frames::Interrogator;
-use transponder::Transponder;
+use model_rules::Transponder;
 
 // The II in bits 17 to 20.
 pub(crate) fn iis(sd: u16) -> u8

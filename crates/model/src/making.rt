@@ -1,14 +1,14 @@
 // A transponder is made.
 ghost use mathlib.Core.Path.{_≡_};
 ghost use Prim.Native.Nat.{_<_};
-ghost use Rattle.transponder.specs.Calls.{makeRanged, newborn, making};
-use transponder::Holder;
-use transponder::Lock;
-use transponder::Made;
-use transponder::Messages;
-use transponder::Timer;
-use transponder::Timers;
-use transponder::Transponder;
+ghost use Rattle.model_rules.specs.Calls.{makeRanged, newborn, making};
+use model_rules::Holder;
+use model_rules::Lock;
+use model_rules::Made;
+use model_rules::Messages;
+use model_rules::Timer;
+use model_rules::Timers;
+use model_rules::Transponder;
 
 // Whether the numbers of a transponder are in their ranges.
 fn make_ranged(address: u32, ac: u32, id: u32, fs: u32, ca: u32) -> bool

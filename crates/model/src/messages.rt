@@ -2,12 +2,12 @@
 ghost use mathlib.Core.Path.{_≡_};
 ghost use Prim.Native.Nat.{_<_, _≤_};
 ghost use lib.ListN.{length};
-ghost use Rattle.fields.specs.Bytes.{numberOf};
-ghost use Rattle.transponder.specs.State.{waiting, waits, firstOf, messagesWith, messagesAfter};
-ghost use Rattle.transponder.specs.Calls.{queuing};
-use transponder::Messages;
-use transponder::Queued;
-use transponder::Transponder;
+ghost use Rattle.frames_rules.specs.Bytes.{numberOfBytes};
+ghost use Rattle.model_rules.specs.State.{waiting, waits, firstOf, messagesWith, messagesAfter};
+ghost use Rattle.model_rules.specs.Calls.{queuing};
+use model_rules::Messages;
+use model_rules::Queued;
+use model_rules::Transponder;
 
 // How many messages wait: the count, or all slots where the count is too large.
 pub fn count(m: Messages) -> usize
@@ -66,7 +66,7 @@ pub(crate) fn drop_first(m: Messages) -> Messages
 // The number that seven bytes are.
 fn seven_bytes(s: &[u8]) -> u64
     requires { ⌜ length (now s) ≡ 7 ⌝ }
-    ensures { λ r. ⌜ r ≡ numberOf (now (s .entry)) ⌝ }
+    ensures { λ r. ⌜ r ≡ numberOfBytes (now (s .entry)) ⌝ }
 {
     let mut r: u64 = 0;
     let mut i: usize = 0;

@@ -1,11 +1,11 @@
 // The reservation of the first message.
 ghost use mathlib.Core.Path.{_≡_};
-ghost use Rattle.transponder.specs.CommB.{asksToHold, nobodyElse, reserve};
+ghost use Rattle.model_rules.specs.CommB.{asksToHold, nobodyElse, reserve};
 use crate::keeping::keeping;
 use crate::lockouts::iis;
 use crate::messages::waits;
-use transponder::Holder;
-use transponder::Transponder;
+use model_rules::Holder;
+use model_rules::Transponder;
 
 // Whether DI and SD ask for the reservation.
 fn asks_to_hold(di: u8, sd: u16) -> bool

@@ -1,15 +1,15 @@
 // The reply to a selective interrogation.
 ghost use mathlib.Core.Path.{_≡_};
-ghost use Rattle.transponder.specs.Replies.{drOf, hidesUM, umOf, bds2, mbOf, valueOf, respond};
+ghost use Rattle.model_rules.specs.Replies.{drOf, hidesUM, umOf, bds2, mbOf, valueOf, respond};
 use crate::messages::first_of;
 use crate::messages::waits;
 use crate::sending::send;
 use crate::sending::silence;
 use frames::Draws;
-use transponder::Holder;
-use transponder::Messages;
-use transponder::Sent;
-use transponder::Transponder;
+use model_rules::Holder;
+use model_rules::Messages;
+use model_rules::Sent;
+use model_rules::Transponder;
 
 // DR.
 fn dr_of(m: Messages) -> u32

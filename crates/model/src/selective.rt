@@ -1,15 +1,15 @@
 // Who a frame is for, and the steps of a selective interrogation.
 ghost use mathlib.Core.Path.{_≡_};
-ghost use Rattle.transponder.specs.Calls.{laidOver, interrogated, heardSelective, heardAllCall};
+ghost use Rattle.model_rules.specs.Calls.{laidOver, interrogated, heardSelective, heardAllCall};
 use crate::all_calls::answer_all_call;
 use crate::closeouts::closeout;
 use crate::lockouts::lockout;
 use crate::reservations::reserve;
 use crate::responses::respond;
 use crate::sending::silence;
+use model_rules::Transponder;
+use model_rules::Went;
 use parity::Reckoned;
-use transponder::Transponder;
-use transponder::Went;
 
 // Whether a remainder is the uplink overlay of a number of 24 bits.
 fn laid_over(address: u32, remainder: u32) -> bool

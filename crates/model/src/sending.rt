@@ -1,11 +1,11 @@
 // A reply's bytes in 14, or none.
 ghost use mathlib.Core.Path.{_≡_};
 ghost use lib.ListN.{replicate};
-ghost use Rattle.fields.specs.Building.{replying, allCallReplying};
-ghost use Rattle.fields.specs.Formats.{lengthOf};
-ghost use Rattle.transponder.specs.Replies.{silence, sentBytes, sending};
+ghost use Rattle.frames_rules.specs.Building.{replying, allCallReplying};
+ghost use Rattle.frames_rules.specs.Formats.{lengthOf};
+ghost use Rattle.model_rules.specs.Replies.{silence, sentBytes, sending};
 use frames::Built;
-use transponder::Sent;
+use model_rules::Sent;
 
 // No reply.
 pub(crate) fn silence() -> Sent

@@ -1,11 +1,11 @@
 // The timers by their codes: the place of a code, a timer that starts, and whether it locks.
 ghost use mathlib.Core.Path.{_≡_};
-ghost use Rattle.transponder.specs.State.{placeOf, started};
-ghost use Rattle.transponder.specs.Lockout.{locks, lockedTo};
+ghost use Rattle.model_rules.specs.State.{placeOf, started};
+ghost use Rattle.model_rules.specs.Lockout.{locks, lockedTo};
 use frames::Interrogator;
-use transponder::Lock;
-use transponder::Timer;
-use transponder::Timers;
+use model_rules::Lock;
+use model_rules::Timer;
+use model_rules::Timers;
 
 // The place of a code's timer; 79 for nobody's.
 fn place_of(code: Interrogator) -> usize

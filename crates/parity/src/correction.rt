@@ -2,16 +2,16 @@
 ghost use mathlib.Core.Path.{_≡_};
 ghost use lib.ListN.{length};
 ghost use Prim.Native.Nat.{_≤_};
-ghost use Rattle.remainders.specs.Messages.{bits};
-ghost use Rattle.remainders.specs.Answers.{said};
-ghost use Rattle.remainders.specs.Correction.{weight, matching, flipped, judged, correction};
-ghost use Rattle.remainders.specs.Steps.{syndromesOf, back, first, Left};
+ghost use Rattle.parity_rules.specs.Messages.{bits};
+ghost use Rattle.parity_rules.specs.Answers.{said};
+ghost use Rattle.parity_rules.specs.Correction.{sizeOf, matching, flipped, byMatches, correction};
+ghost use Rattle.parity_rules.specs.Steps.{syndromesOf, back, first, Left};
 use crate::division::remainder_of;
-use crate::lengths::fitting;
+use crate::lengths::sized;
 use crate::marks::gather;
 use crate::search::choose_byte;
 use crate::search::count;
-use remainders::Fix;
+use parity_rules::Fix;
 
 // Writes the message with the one matching subset flipped, and says how many places that has.
 fn rebuild(
@@ -23,7 +23,7 @@ fn rebuild(
     out: &mut [u8],
 ) -> u32
     requires { ⌜ (length (now marks) ≡ length (now msg)) × (length (now out) ≡ length (now msg)) × (length (now msg) ≤ 14) × Left (bits (now marks)) (now syns) 0 many want (first (matching want (bits (now marks)))) ⌝ }
-    ensures { λ r. ⌜ r ≡ weight (first (matching want (bits (now (marks .entry))))) ⌝ }
+    ensures { λ r. ⌜ r ≡ sizeOf (first (matching want (bits (now (marks .entry))))) ⌝ }
     ensures { λ r. ⌜ now (out .exit) ≡ flipped (now (msg .entry)) (first (matching want (bits (now (marks .entry))))) ⌝ }
 {
     let mut k = many;
@@ -44,7 +44,7 @@ fn rebuild(
 // The outcome by how many subsets match, with the first of syns the syndromes of the marked bits.
 fn settle(msg: &[u8], marks: &[u8], syns: &[u32; 12], many: usize, want: u32, out: &mut [u8]) -> Fix
     requires { ⌜ (length (now marks) ≡ length (now msg)) × (length (now out) ≡ length (now msg)) × (length (now msg) ≤ 14) × (many ≤ 12) × (back many (now syns) ≡ syndromesOf (bits (now marks))) ⌝ }
-    ensures { λ r. ⌜ said r (now (out .exit)) ≡ judged (now (msg .entry)) (now (out .entry)) (matching want (bits (now (marks .entry)))) ⌝ }
+    ensures { λ r. ⌜ said r (now (out .exit)) ≡ byMatches (now (msg .entry)) (now (out .entry)) (matching want (bits (now (marks .entry)))) ⌝ }
 {
     let found = count(syns, many, want);
     if found == 0 {
@@ -60,7 +60,7 @@ fn settle(msg: &[u8], marks: &[u8], syns: &[u32; 12], many: usize, want: u32, ou
 pub fn correct(msg: &[u8], marks: &[u8], overlay: u32, limit: u32, out: &mut [u8]) -> Fix
     ensures { λ r. ⌜ said r (now (out .exit)) ≡ correction (now (msg .entry)) (now (marks .entry)) overlay limit (now (out .entry)) ⌝ }
 {
-    if !fitting(msg.len(), marks.len(), out.len()) {
+    if !sized(msg.len(), marks.len(), out.len()) {
         return Fix::Length;
     }
     if 0x100_0000 <= overlay {

@@ -2,12 +2,12 @@
 ghost use mathlib.Core.Path.{_≡_};
 ghost use mathlib.Core.List.{[]};
 ghost use Prim.Native.Nat.{_<_};
-ghost use Rattle.remainders.specs.Messages.{bits, byteThen};
-ghost use Rattle.remainders.specs.Answers.{answered};
-ghost use Rattle.remainders.specs.Division.{divide, remainderOf, remainderAnswer};
-ghost use Rattle.remainders.specs.Steps.{movedUp};
+ghost use Rattle.parity_rules.specs.Messages.{bits, byteThen};
+ghost use Rattle.parity_rules.specs.Answers.{answered};
+ghost use Rattle.parity_rules.specs.Division.{divide, remainderOf, remainderAnswer};
+ghost use Rattle.parity_rules.specs.Steps.{movedUp};
 use crate::lengths::whole;
-use remainders::Reckoned;
+use parity_rules::Reckoned;
 
 // The byte h times x^24, reduced, with no table: x^24 leaves FFF409, and x^25 and the six powers after it 1C1B moved up.
 fn moved_up(h: u32) -> u32

@@ -1,7 +1,7 @@
 // The lengths that a message and its buffers may have.
 ghost use mathlib.Core.Path.{_≡_};
-ghost use Rattle.remainders.specs.Messages.{whole};
-ghost use Rattle.remainders.specs.Correction.{sized};
+ghost use Rattle.parity_rules.specs.Messages.{whole};
+ghost use Rattle.parity_rules.specs.Correction.{sized};
 
 // Whether a number of bytes is that of a message.
 pub(crate) fn whole(n: usize) -> bool
@@ -14,7 +14,7 @@ pub(crate) fn whole(n: usize) -> bool
 }
 
 // Whether a message has one of the two lengths and its mark and output buffers have it too.
-pub fn fitting(n: usize, marks: usize, out: usize) -> bool
+pub fn sized(n: usize, marks: usize, out: usize) -> bool
     ensures { λ r. ⌜ r ≡ sized n marks out ⌝ }
 {
     if marks != n {

@@ -9,8 +9,8 @@ mod syndrome;
 
 pub use correction::correct;
 pub use division::remainder;
-pub use lengths::fitting;
+pub use lengths::sized;
 pub use overlay::code_overlay;
 pub use overlay::uplink_overlay;
-pub use remainders::Fix;
-pub use remainders::Reckoned;
+pub use parity_rules::Fix;
+pub use parity_rules::Reckoned;

@@ -2,9 +2,9 @@
 ghost use mathlib.Core.Path.{_≡_};
 ghost use lib.ListN.{length, getD};
 ghost use Prim.Native.Nat.{_*_, _<_, _≤_};
-ghost use Rattle.remainders.specs.Messages.{bits};
-ghost use Rattle.remainders.specs.Division.{syndrome};
-ghost use Rattle.remainders.specs.Steps.{Noted, Gathered};
+ghost use Rattle.parity_rules.specs.Messages.{bits};
+ghost use Rattle.parity_rules.specs.Division.{syndrome};
+ghost use Rattle.parity_rules.specs.Steps.{Noted, Gathered};
 use crate::syndrome::syndrome_of;
 
 // Bit i of some bytes, from 0.

@@ -1,8 +1,8 @@
 // The overlays: of an address on the uplink, and of a code in DF 11.
 ghost use mathlib.Core.Path.{_≡_};
-ghost use Rattle.remainders.specs.Answers.{answered};
-ghost use Rattle.remainders.specs.Overlays.{overlayOf, uplinkOverlay, codeOverlay};
-use remainders::Reckoned;
+ghost use Rattle.parity_rules.specs.Answers.{answered};
+ghost use Rattle.parity_rules.specs.Overlays.{overlayOf, uplinkOverlay, codeOverlay};
+use parity_rules::Reckoned;
 
 // The high half of the generator times the 24 low bits of a number.
 fn overlay_of(address: u32) -> u32

@@ -3,9 +3,9 @@ ghost use mathlib.Core.Path.{_≡_};
 ghost use mathlib.Core.List.{[]};
 ghost use lib.ListN.{length, drop};
 ghost use Prim.Native.Nat.{_*_, _<_, _≤_};
-ghost use Rattle.remainders.specs.Messages.{bits};
-ghost use Rattle.remainders.specs.Correction.{matching};
-ghost use Rattle.remainders.specs.Steps.{ways, back, first, Left, Chosen, ChosenByte};
+ghost use Rattle.parity_rules.specs.Messages.{bits};
+ghost use Rattle.parity_rules.specs.Correction.{matching};
+ghost use Rattle.parity_rules.specs.Steps.{ways, back, first, Left, Chosen, ChosenByte};
 use crate::marks::bit;
 
 // With no marked bit left: one way if nothing is left to match, else none.

@@ -1,7 +1,7 @@
 // The syndromes, behind one function: nothing else knows how they are had.
 ghost use mathlib.Core.Path.{_≡_};
 ghost use Prim.Native.Nat.{_<_};
-ghost use Rattle.remainders.specs.Division.{syndrome};
+ghost use Rattle.parity_rules.specs.Division.{syndrome};
 
 // The syndromes of long bits 1 to 112.
 const SYNDROMES: [u32; 112] = [

@@ -10,18 +10,18 @@ use lib.Seq.{append-snoc, length-take-le}
 use Rattle.lists.specs.Lists.{over}
 use Rattle.lists.proofs.Front.{front-drop, front-end, take-cut}
 use Rattle.lists.proofs.Over.{over-none, over-self, over-push, over-over, over-read, take-over}
-use Rattle.plans.specs.declared.request.Ask.{Ask}
-use Rattle.plans.specs.declared.entry.Entry.{Entry}
-use Rattle.plans.specs.declared.setup.Setup.{Setup}
-use Rattle.plans.specs.declared.plan.Place.{Place}
-use Rattle.plans.specs.declared.plan.Place.the-variants.{At, Nowhere}
-use Rattle.plans.specs.declared.plan.Planned.{Planned}
-use Rattle.plans.specs.Exchange.{entryAt}
-use Rattle.plans.specs.Fits.{place}
-use Rattle.plans.specs.Shares.{share}
-use Rattle.plans.specs.Plan.{Board, tried, stays, pass, passOver, alone, turns, nothingPlaced, plan, placedIn, waitingIn, boardOf, planned}
+use Rattle.planner_rules.specs.declared.request.Ask.{Ask}
+use Rattle.planner_rules.specs.declared.entry.Entry.{Entry}
+use Rattle.planner_rules.specs.declared.setup.Setup.{Setup}
+use Rattle.planner_rules.specs.declared.plan.Place.{Place}
+use Rattle.planner_rules.specs.declared.plan.Place.the-variants.{At, Nowhere}
+use Rattle.planner_rules.specs.declared.plan.Planned.{Planned}
+use Rattle.planner_rules.specs.Exchange.{entryAt}
+use Rattle.planner_rules.specs.Fits.{place}
+use Rattle.planner_rules.specs.Shares.{share}
+use Rattle.planner_rules.specs.Plan.{Board, tried, stays, pass, passOver, alone, turns, nothingPlaced, plan, placedIn, waitingIn, boardOf, inSlots}
 use Rattle.planner.specs.Promises.{Tallied, Shown, PassedOver, Laid}
-use Rattle.plans.proofs.Passes.{passed, longer, turns-sizes, plan-of-nothing}
+use Rattle.planner_rules.proofs.Passes.{passed, longer, turns-sizes, plan-of-nothing}
 use Rattle.planner.proofs.Rows.{shown-none}
 use Rattle.planner.proofs.Tallies.{tallied-none, tallied-more, tallied-small, at-limit, below-limit}
 
@@ -51,7 +51,7 @@ snoc-count : {A : Type 0} (v : List A) (x : A) → length v + 1 ≡ length (v ++
 snoc-count v x = simp length-append (omega arith)
 
 -- the slots of a board, with one request more
-settled-slots : (s : Place) (a : Ask) (x : Board) (old : List Entry) (base : List Ask) → length (x .placed) < length old → length (x .waiting) < length base → settledIn s a (planned x old base) ≡ planned (settled s a x) old base
+settled-slots : (s : Place) (a : Ask) (x : Board) (old : List Entry) (base : List Ask) → length (x .placed) < length old → length (x .waiting) < length base → settledIn s a (inSlots x old base) ≡ inSlots (settled s a x) old base
 unfolding settled
 settled-slots (At t) a x old base h k = rw (over-push (x .placed) old (entryAt a t) (length (x .placed)) refl h, snoc-count (x .placed) (entryAt a t))
 settled-slots Nowhere a x old base h k = rw (over-push (x .waiting) base a (length (x .waiting)) refl k, snoc-count (x .waiting) a)
@@ -82,7 +82,7 @@ module _ (L : ℕ) (limits : List ℕ) where
     pub entries-all : length (b .entries) ≡ 128
     pub asks-all : length (b .asks) ≡ 128
     pub board : Board
-    pub slots : p ≡ planned board (b .entries) (b .asks)
+    pub slots : p ≡ inSlots board (b .entries) (b .asks)
     pub tallied : Tallied counts (board .placed)
     pub is : passOver L limits (boardOf b) ≡ rest board (drop i (waitingIn b))
 
@@ -179,7 +179,7 @@ module _ (L : ℕ) (limits : List ℕ) where
         record {
           answer =
               h .slots
-              ∙ ap (λ (x : Board). planned x (b .entries) (b .asks)) (sym (h .is ∙ ap (λ (w : List Ask). rest (h .board) w) none ∙ rest-end (h .board)));
+              ∙ ap (λ (x : Board). inSlots x (b .entries) (b .asks)) (sym (h .is ∙ ap (λ (w : List Ask). rest (h .board) w) none ∙ rest-end (h .board)));
           shown = s;
           tallied = rw (here i counts p h) (h .tallied);
         }
@@ -192,14 +192,14 @@ shows x old p h =
     rw (e, h .asks)
 
 -- a pass over slots that hold a board
-pass-laid : (L : ℕ) (limits : List ℕ) (x : Board) (old : List Entry) (p r : Planned) → Laid x old p → r ≡ planned (passOver L limits (boardOf p)) (p .entries) (p .asks)
+pass-laid : (L : ℕ) (limits : List ℕ) (x : Board) (old : List Entry) (p r : Planned) → Laid x old p → r ≡ inSlots (passOver L limits (boardOf p)) (p .entries) (p .asks)
     → Laid (passOver L limits x) old r
 pass-laid L limits x old p r h q =
     let y = passOver L limits x in
-    let e : r ≡ planned y (over (x .placed) old) (p .asks) =
+    let e : r ≡ inSlots y (over (x .placed) old) (p .asks) =
     q
-    ∙ ap (λ (v : Board). planned (passOver L limits v) (p .entries) (p .asks)) (shows x old p h)
-    ∙ ap (λ (v : List Entry). planned y v (p .asks)) (h .entries) in
+    ∙ ap (λ (v : Board). inSlots (passOver L limits v) (p .entries) (p .asks)) (shows x old p h)
+    ∙ ap (λ (v : List Entry). inSlots y v (p .asks)) (h .entries) in
     record {
       placed = ap (λ (v : Planned). v .placed) e;
       entries = ap (λ (v : Planned). v .entries) e ∙ over-over (x .placed) (y .placed) old (longer (passed L limits (x .placed) (x .waiting)));
@@ -238,7 +238,7 @@ module _ (L : ℕ) (shares : List ℕ) (n : ℕ) (old : List Entry) (base : List
         laid =
             rw (add-one u)
             (pass-laid L (alone u shares) (turns L shares u begin) old p r (e .laid)
-            (q .answer ∙ ap (λ (v : List ℕ). planned (passOver L v (boardOf p)) (p .entries) (p .asks)) k));
+            (q .answer ∙ ap (λ (v : List ℕ). inSlots (passOver L v (boardOf p)) (p .entries) (p .asks)) k));
         shown = q .shown;
         tallied = q .tallied;
       }
@@ -259,13 +259,13 @@ module _ (s : Setup) (n m : ℕ) (old : List Entry) (base : List Ask) (k : n ≡
 
   -- what still waits laid over the slots
   pub plan-shown : (r : Planned) (asks : List Ask) → Laid (plan s (take n base)) old r → asks ≡ over (waitingIn r) base
-      → record { placed = r .placed; entries = r .entries; waiting = r .waiting; asks = asks } ≡ planned (plan s (take m base)) old base
+      → record { placed = r .placed; entries = r .entries; waiting = r .waiting; asks = asks } ≡ inSlots (plan s (take m base)) old base
   plan-shown r asks l e =
-      subst (λ (w : List Ask). record { placed = r .placed; entries = r .entries; waiting = r .waiting; asks = asks } ≡ planned (plan s w) old base) cut
+      subst (λ (w : List Ask). record { placed = r .placed; entries = r .entries; waiting = r .waiting; asks = asks } ≡ inSlots (plan s w) old base) cut
       (rw (l .placed, l .entries, l .waiting, e, l .asks))
 
   -- with nothing waiting
-  pub plan-idle : n ≡ 0 → record { placed = 0; entries = old; waiting = 0; asks = base } ≡ planned (plan s (take m base)) old base
+  pub plan-idle : n ≡ 0 → record { placed = 0; entries = old; waiting = 0; asks = base } ≡ inSlots (plan s (take m base)) old base
   plan-idle z =
       let e : take m base ≡ [] = sym cut ∙ ap (λ (i : ℕ). take i base) z in
       rw (e, plan-of-nothing s, over-none old, over-none base)

@@ -6,11 +6,11 @@ use mathlib.Core.Logic.{⊎-elim}
 use mathlib.Core.List.{List, [], _∷_}
 use lib.ListN.{length, getD, set, length-set}
 use lib.Seq.{getD-set-same, getD-set-other}
-use Rattle.plans.specs.declared.entry.Entry.{Entry}
-use Rattle.plans.specs.Exchange.{entryAt, transmits, listens}
+use Rattle.planner_rules.specs.declared.entry.Entry.{Entry}
+use Rattle.planner_rules.specs.Exchange.{entryAt, transmits, listens}
 use Rattle.planner.specs.Promises.{Told, Roomy, Shown, noted}
-use Rattle.plans.proofs.Smallest.{le-or-lt}
-use Rattle.plans.proofs.Clear.{sent-small}
+use Rattle.planner_rules.proofs.Smallest.{le-or-lt}
+use Rattle.planner_rules.proofs.Clear.{sent-small}
 
 -- what stands before a slot that is written
 before : (v : List ℕ) (i x j : ℕ) → j < i → getD (set v i x) j 0 ≡ getD v j 0

@@ -11,15 +11,15 @@ use lib.Dec.{leb}
 use borrow.Author.Tests.{le-leb, lt-leb, eq-eqb, ne-eqb}
 use Rattle.lists.proofs.Tests.{and-yes, and-no-left, and-no-right}
 use Rattle.lists.proofs.Front.{front-take}
-use Rattle.plans.specs.declared.request.Ask.{Ask}
-use Rattle.plans.specs.declared.entry.Entry.{Entry}
+use Rattle.planner_rules.specs.declared.request.Ask.{Ask}
+use Rattle.planner_rules.specs.declared.entry.Entry.{Entry}
 use Rattle.planner.specs.declared.exchange.Exchange.{Exchange}
-use Rattle.plans.specs.declared.plan.Place.the-variants.{At, Nowhere}
-use Rattle.plans.specs.Exchange.{Span, exchangeOf, entryAt, transmits, listens, spans, apart, clear}
-use Rattle.plans.specs.Fits.{clearOf, fits, place}
+use Rattle.planner_rules.specs.declared.plan.Place.the-variants.{At, Nowhere}
+use Rattle.planner_rules.specs.Exchange.{Span, exchangeOf, entryAt, transmits, listens, spans, apart, clear}
+use Rattle.planner_rules.specs.Fits.{clearOf, fits, place}
 use Rattle.planner.specs.Promises.{held, Past, Step}
-use Rattle.plans.proofs.Smallest.{le-or-lt, late, place-at, place-none}
-use Rattle.plans.proofs.Clear.{or-right, clear-swap, clear-late, clear-of-none, clear-of-snoc, unclear-part}
+use Rattle.planner_rules.proofs.Smallest.{le-or-lt, late, place-at, place-none}
+use Rattle.planner_rules.proofs.Clear.{or-right, clear-swap, clear-late, clear-of-none, clear-of-snoc, unclear-part}
 
 -- one interval of an exchange against one of another
 past-step : (p : ℕ → Span) (q : Span) (a b lo hi t r : ℕ) → ((j : ℕ) → p j .lo ≡ j + a) → ((j : ℕ) → p j .hi ≡ j + b) → q .lo ≡ lo → q .hi ≡ hi → Past t a b lo hi r → Step (λ (j : ℕ). apart (p j) q) t r

@@ -11,15 +11,15 @@ use lib.Seq.{getD-set-same, getD-set-other}
 use borrow.Author.Tests.{lt-ltb, le-ltb, eqb-true, eqb-false}
 use Rattle.lists.proofs.Front.{front-take}
 use Rattle.lists.proofs.Count.{count-nil, count-le, count-snoc-yes, count-snoc-no}
-use Rattle.plans.specs.declared.request.Ask.{Ask}
-use Rattle.plans.specs.declared.entry.Entry.{Entry}
-use Rattle.plans.specs.declared.plan.Place.the-variants.{Nowhere}
-use Rattle.plans.specs.Fits.{place}
-use Rattle.plans.specs.Shares.{share}
-use Rattle.plans.specs.Plan.{ofUnit, taken, tried}
+use Rattle.planner_rules.specs.declared.request.Ask.{Ask}
+use Rattle.planner_rules.specs.declared.entry.Entry.{Entry}
+use Rattle.planner_rules.specs.declared.plan.Place.the-variants.{Nowhere}
+use Rattle.planner_rules.specs.Fits.{place}
+use Rattle.planner_rules.specs.Shares.{share}
+use Rattle.planner_rules.specs.Plan.{ofUnit, taken, tried}
 use Rattle.planner.specs.Promises.{Tallied}
-use Rattle.plans.proofs.Smallest.{le-or-lt}
-use Rattle.plans.proofs.Guarantee.{zeros}
+use Rattle.planner_rules.proofs.Smallest.{le-or-lt}
+use Rattle.planner_rules.proofs.Guarantee.{zeros}
 
 pub tallied-none : Tallied (replicate 8 0) []
 tallied-none = record { eight = refl; each = λ u l. zeros 8 u ∙ sym (count-nil (λ (e : Entry). ofUnit u (e .ask))) }

@@ -6,15 +6,15 @@ use mathlib.Core.Bool.{Bool, true, false}
 use mathlib.Core.List.{List}
 use lib.ListN.{length, getD, take, set}
 use Rattle.planner.specs.declared.exchange.Exchange.{Exchange}
-use Rattle.plans.specs.declared.request.Ask.{Ask}
-use Rattle.plans.specs.declared.entry.Entry.{Entry}
-use Rattle.plans.specs.declared.plan.Place.{Place}
-use Rattle.plans.specs.Exchange.{Course, sentLong, earliest, longest, exchangeOf, entryAt, transmits, listens, clear}
-use Rattle.plans.specs.Fits.{place}
-use Rattle.plans.specs.Shares.{share}
+use Rattle.planner_rules.specs.declared.request.Ask.{Ask}
+use Rattle.planner_rules.specs.declared.entry.Entry.{Entry}
+use Rattle.planner_rules.specs.declared.plan.Place.{Place}
+use Rattle.planner_rules.specs.Exchange.{Course, sentLong, earliest, longest, exchangeOf, entryAt, transmits, listens, clear}
+use Rattle.planner_rules.specs.Fits.{place}
+use Rattle.planner_rules.specs.Shares.{share}
 use Rattle.lists.specs.Lists.{over}
-use Rattle.plans.specs.declared.plan.Planned.{Planned}
-use Rattle.plans.specs.Plan.{Board, taken, passOver, placedIn, waitingIn, boardOf, planned}
+use Rattle.planner_rules.specs.declared.plan.Planned.{Planned}
+use Rattle.planner_rules.specs.Plan.{Board, taken, passOver, placedIn, waitingIn, boardOf, inSlots}
 
 -- an exchange of the definitions, as the code holds it
 abbrev pub held : Course → Exchange
@@ -88,7 +88,7 @@ pub record Tallied (counts : List ℕ) (es : List Entry) : Type 0 where
 
 -- a pass over what waits in b gave r: the board of the definition in the slots of b; the rows show its entries, and the counts are theirs
 pub record PassedOver (L : ℕ) (limits : List ℕ) (b r : Planned) (rows counts : List ℕ) : Type 0 where
-  pub answer : r ≡ planned (passOver L limits (boardOf b)) (b .entries) (b .asks)
+  pub answer : r ≡ inSlots (passOver L limits (boardOf b)) (b .entries) (b .asks)
   pub shown : Shown rows (r .placed) (r .entries)
   pub tallied : Tallied counts (placedIn r)
 

@@ -1,9 +1,9 @@
 // A plan's entry, as the pass makes it.
 ghost use mathlib.Core.Path.{_≡_};
-ghost use Rattle.plans.specs.Exchange.{entryAt};
-use plans::Ask;
-use plans::Entry;
-use plans::Mark;
+ghost use Rattle.planner_rules.specs.Exchange.{entryAt};
+use planner_rules::Ask;
+use planner_rules::Entry;
+use planner_rules::Status;
 
 // A request placed at a start, and open.
 pub fn entry_at(a: Ask, start: u16) -> Entry
@@ -12,6 +12,6 @@ pub fn entry_at(a: Ask, start: u16) -> Entry
     Entry {
         ask: a,
         start: start,
-        mark: Mark::Open,
+        status: Status::Open,
     }
 }

@@ -1,9 +1,9 @@
 // An exchange with an aircraft: the numbers of Annex 10, and its intervals.
 ghost use mathlib.Core.Path.{_≡_};
 ghost use Prim.Native.Nat.{_≤_};
-ghost use Rattle.plans.specs.Exchange.{constants, sentShort, sentLong, replyFor, lasting, exchangeOf};
+ghost use Rattle.planner_rules.specs.Exchange.{constants, sentShort, sentLong, replyFor, courseOf, exchangeOf};
 ghost use Rattle.planner.specs.Promises.{held, Small};
-use plans::Ask;
+use planner_rules::Ask;
 
 // In ticks from its start: it transmits in [0, sent), listens in [from, to), and ends with its window.
 pub struct Exchange {
@@ -65,14 +65,14 @@ impl Exchange {
 
     // The exchange of a short interrogation.
     pub fn short(near: u16, far: u16, rr: u8) -> Exchange
-        ensures { λ r. ⌜ (r ≡ held (lasting sentShort near far (replyFor rr))) × Small r ⌝ }
+        ensures { λ r. ⌜ (r ≡ held (courseOf sentShort near far (replyFor rr))) × Small r ⌝ }
     {
         Exchange::lasting(Self::SENT_SHORT, near, far, rr)
     }
 
     // The exchange of a long interrogation.
     pub fn long(near: u16, far: u16, rr: u8) -> Exchange
-        ensures { λ r. ⌜ (r ≡ held (lasting sentLong near far (replyFor rr))) × Small r ⌝ }
+        ensures { λ r. ⌜ (r ≡ held (courseOf sentLong near far (replyFor rr))) × Small r ⌝ }
     {
         Exchange::lasting(Self::SENT_LONG, near, far, rr)
     }
@@ -89,7 +89,7 @@ impl Exchange {
 
     fn lasting(sent: u32, near: u16, far: u16, rr: u8) -> Exchange
         requires { ⌜ sent ≤ 135 ⌝ }
-        ensures { λ r. ⌜ (r ≡ held (lasting sent near far (replyFor rr))) × Small r ⌝ }
+        ensures { λ r. ⌜ (r ≡ held (courseOf sent near far (replyFor rr))) × Small r ⌝ }
     {
         let open = Self::EARLIEST + wide(near);
         let end = Self::LATEST + wide(far) + Exchange::reply(rr);

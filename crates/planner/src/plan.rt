@@ -2,22 +2,22 @@
 ghost use mathlib.Core.Path.{_≡_};
 ghost use Prim.Native.Nat.{_+_, _≤_, _<_, min};
 ghost use lib.ListN.{length, take, set};
-ghost use Rattle.plans.specs.Exchange.{entryAt, listens};
-ghost use Rattle.plans.specs.Shares.{share};
+ghost use Rattle.planner_rules.specs.Exchange.{entryAt, listens};
+ghost use Rattle.planner_rules.specs.Shares.{share};
 ghost use Rattle.lists.specs.Lists.{over};
-ghost use Rattle.plans.specs.Plan.{alone, plan, placedIn, asksOf, planned};
+ghost use Rattle.planner_rules.specs.Plan.{alone, plan, placedIn, asksOf, inSlots};
 ghost use Rattle.planner.specs.Promises.{Tallied, noted, Shown, PassedOver, Laid};
 use crate::entry::entry_at;
 use crate::exchange::Exchange;
 use crate::exchange::wide;
 use crate::search::first_fit;
 use crate::shares::share;
-use plans::Ask;
-use plans::Asks;
-use plans::Entry;
-use plans::Place;
-use plans::Planned;
-use plans::Setup;
+use planner_rules::Ask;
+use planner_rules::Asks;
+use planner_rules::Entry;
+use planner_rules::Place;
+use planner_rules::Planned;
+use planner_rules::Setup;
 
 // How many slots count: the count, or all of them where the count is too large.
 fn live(n: usize) -> usize
@@ -154,7 +154,7 @@ fn make_passes(s: Setup, n: usize, asks: [Ask; 128], old: [Entry; 128]) -> Plann
 // The plan. It is written over the slots of the old one, and what still waits over those of the waiting list. With nothing waiting
 // there is nothing to place.
 pub fn make_plan(s: Setup, w: Asks, old: [Entry; 128]) -> Planned
-    ensures { λ r. ⌜ r ≡ planned (plan s (asksOf w)) old (w .list) ⌝ }
+    ensures { λ r. ⌜ r ≡ inSlots (plan s (asksOf w)) old (w .list) ⌝ }
 {
     let n = live(w.n);
     let base = w.list;

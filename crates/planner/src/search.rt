@@ -2,8 +2,8 @@
 ghost use Prim.Native.Nat.{ℕ, _≤_, _<_};
 ghost use Rattle.planner.specs.Promises.{Past, Small, Clearing, ClearingRow, Roomy, Placing};
 use crate::exchange::Exchange;
-use plans::Ask;
-use plans::Place;
+use planner_rules::Ask;
+use planner_rules::Place;
 
 // The first start from t on at which the interval from a up to b after it is apart from the one from lo up to hi.
 fn past(t: u32, a: u32, b: u32, lo: u32, hi: u32) -> u32

@@ -2,10 +2,10 @@
 ghost use mathlib.Core.Path.{_≡_};
 ghost use Prim.Native.Nat.{_≤_};
 ghost use Rattle.lists.specs.Lists.{total, every};
-ghost use Rattle.plans.specs.Shares.{share, inRange, ordered, sharesFit, judged};
+ghost use Rattle.planner_rules.specs.Shares.{share, inRange, ordered, sharesFit, setupNumber};
 use crate::exchange::Exchange;
 use crate::exchange::wide;
-use plans::Setup;
+use planner_rules::Setup;
 
 // A number of 8 bits among those of 32.
 fn byte(x: u8) -> u32
@@ -74,7 +74,7 @@ fn fit(s: Setup) -> bool
 
 // The number that a setup is answered: 0, 2 or 3.
 pub fn judge(s: Setup) -> u8
-    ensures { λ r. ⌜ r ≡ judged s ⌝ }
+    ensures { λ r. ⌜ r ≡ setupNumber s ⌝ }
 {
     if 13000 < s.reach {
         return 2;

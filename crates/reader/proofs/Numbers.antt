@@ -6,8 +6,8 @@ use native.Mathlib.Omega.{arith}
 use mathlib.Core.Path.{_≡_, refl, sym}
 use mathlib.Core.List.{List, [], _∷_}
 use lib.ListN.{length, getD, List·getD-eq-default}
-use Rattle.records.specs.Records.{bodyLength, numberAt}
-use Rattle.records.specs.Fields.{eightAt}
+use Rattle.reader_rules.specs.Records.{bodyLength, numberAt}
+use Rattle.reader_rules.specs.Fields.{eightAt}
 
 -- a kind above 9 has no body
 pub body-none : (k : ℕ) → 9 < k → 0 ≡ bodyLength k

@@ -1,16 +1,16 @@
 // What stands in the body of a record, by its kind: any place of any stream is answered.
 ghost use mathlib.Core.Path.{_≡_};
 ghost use Prim.Native.Nat.{_+_, _≤_};
-ghost use Rattle.records.specs.Records.{numberAt};
-ghost use Rattle.records.specs.Fields.{eightAt, setupAt, edgesAt, addressAt, requestAt, tagAt, replyAt};
+ghost use Rattle.reader_rules.specs.Records.{numberAt};
+ghost use Rattle.reader_rules.specs.Fields.{eightAt, setupAt, edgesAt, addressAt, requestAt, tagAt, replyAt};
 use crate::kinds::message_length;
 use crate::reading::byte_at;
 use crate::reading::number_at;
 use crate::reading::place_after;
-use plans::Request;
-use plans::Setup;
-use records::Edges;
-use records::Reply;
+use planner_rules::Request;
+use planner_rules::Setup;
+use reader_rules::Edges;
+use reader_rules::Reply;
 
 // The number of two bytes.
 fn short_at(s: &[u8], at: usize, from: usize) -> u16

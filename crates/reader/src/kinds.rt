@@ -1,7 +1,7 @@
 // The kinds of records, and how long their bodies are.
 ghost use mathlib.Core.Path.{_≡_};
 ghost use Prim.Native.Nat.{_≤_};
-ghost use Rattle.records.specs.Records.{bodyLength, messageLength};
+ghost use Rattle.reader_rules.specs.Records.{bodyLength, messageLength};
 
 // By kind, from 0; 0 for a kind that is unknown.
 const LENGTHS: [usize; 10] = [0, 21, 7, 3, 17, 4, 19, 33, 3, 7];

@@ -1,5 +1,5 @@
 // The calls that read records: their kinds and lengths, what stands in their bodies, and the reader that carries the stream and
-// its place. Their definitions stand in crate records.
+// its place. Their definitions stand in crate reader_rules.
 mod fields;
 mod kinds;
 mod reader;
@@ -17,8 +17,8 @@ pub use reader::found_at;
 pub use reader::found_by;
 pub use reader::next;
 pub use reader::reader_at;
+pub use reader_rules::Edges;
+pub use reader_rules::Found;
+pub use reader_rules::Reader;
+pub use reader_rules::Reply;
 pub use reading::record_at;
-pub use records::Edges;
-pub use records::Found;
-pub use records::Reader;
-pub use records::Reply;

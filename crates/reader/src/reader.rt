@@ -1,11 +1,11 @@
 // The calls on a reader. Thin functions over it leave the work to those on stream and place.
 ghost use mathlib.Core.Path.{_≡_};
-ghost use Rattle.records.specs.Answers.{foundSaid, toldAt};
-ghost use Rattle.records.specs.Readers.{readerAt, toldBy, movedOn};
+ghost use Rattle.reader_rules.specs.Answers.{foundSaid, toldAt};
+ghost use Rattle.reader_rules.specs.Readers.{readerAt, toldBy, movedOn};
 use crate::reading::next_place;
 use crate::reading::record_at;
-use records::Found;
-use records::Reader;
+use reader_rules::Found;
+use reader_rules::Reader;
 
 // A reader of a stream at a place.
 pub fn reader_at<'a>(stream: &'a [u8], place: usize) -> Reader<'a>

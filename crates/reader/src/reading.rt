@@ -2,10 +2,10 @@
 ghost use mathlib.Core.Path.{_≡_};
 ghost use Prim.Native.Nat.{_+_, _^_, _≤_, _<_, min};
 ghost use lib.ListN.{length, getD};
-ghost use Rattle.records.specs.Answers.{foundSaid, toldAt};
-ghost use Rattle.records.specs.Records.{numberAt, recordAt, nextPlace};
+ghost use Rattle.reader_rules.specs.Answers.{foundSaid, toldAt};
+ghost use Rattle.reader_rules.specs.Records.{numberAt, recordAt, nextPlace};
 use crate::kinds::body_length;
-use records::Found;
+use reader_rules::Found;
 
 // The byte k after a place.
 pub(crate) fn byte_at(s: &[u8], at: usize, k: usize) -> u8

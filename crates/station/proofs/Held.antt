@@ -1,5 +1,4 @@
 -- The place of an address that is in the target list, and room in the waiting list.
--- Assumes nothing.
 use mathlib.Core.Path.{_≡_}
 use mathlib.Core.Bool.{Bool, true, false, _||_, true≢false}
 use native.Mathlib.Nat.{min-le-right}
@@ -9,10 +8,10 @@ use borrow.Author.Tests.{leb-false, ltb-true}
 use lib.Dec.{leb}
 use lib.ListN.{length, length-take}
 use Rattle.lists.specs.Lists.{countOf}
-use Rattle.histories.specs.declared.state.Targets.{Targets}
-use Rattle.histories.specs.declared.state.Waiting.{Waiting}
-use Rattle.histories.specs.State.{targetsOf, placeIn, inList, requestsOf, isOf}
-use Rattle.histories.specs.Calls.{unitFull}
+use Rattle.station_rules.specs.declared.state.Targets.{Targets}
+use Rattle.station_rules.specs.declared.state.Waiting.{Waiting}
+use Rattle.station_rules.specs.State.{targetsOf, placeIn, inList, requestsOf, isOf}
+use Rattle.station_rules.specs.Calls.{unitFull}
 
 -- the place is one of the list, and one of the slots
 module _ (a : ℕ) (t : Targets) (h : inList a t ≡ true) where

@@ -1,13 +1,12 @@
 -- The format and AC or ID of a message, from its bytes.
--- Assumes nothing.
 use mathlib.Core.Path.{_≡_, sym, ap, _∙_}
 use mathlib.Core.List.{List, [], _∷_}
 use native.Mathlib.Omega.{arith}
 use Prim.Native.Nat.{ℕ, _+_, _*_, _/_, _%_, _<_}
 use lib.ListN.{length, getD}
-use Rattle.fields.specs.Fields.{headOf, valueAt, atUF, atACorID}
-use Rattle.fields.specs.Reading.{formatOf}
-use Rattle.histories.specs.Replies.{valueIn}
+use Rattle.frames_rules.specs.Fields.{headOf, valueAt, atUF, atACorID}
+use Rattle.frames_rules.specs.Reading.{formatOf}
+use Rattle.station_rules.specs.Replies.{valueIn}
 
 -- four bytes as a number
 abbrev four : ℕ → ℕ → ℕ → ℕ → ℕ

@@ -1,5 +1,4 @@
 -- What a reply leaves, by its correction.
--- Assumes nothing.
 use mathlib.Core.Path.{_≡_, refl, sym, ap, _∙_}
 use mathlib.Core.List.{List}
 use mathlib.Core.Bool.{Bool, true, false}
@@ -8,15 +7,15 @@ use borrow.Author.Tests.{eq-eqb, ne-eqb}
 use lib.Dec.{eqb}
 use lib.IntN.{ℤ}
 use Rattle.lists.specs.Lists.{pick}
-use Rattle.remainders.specs.Answers.{Outcome}
-use Rattle.remainders.specs.Correction.{correction}
-use Rattle.fields.specs.Reading.{formatOf}
-use Rattle.plans.specs.declared.entry.Entry.{Entry}
+use Rattle.parity_rules.specs.Answers.{Outcome}
+use Rattle.parity_rules.specs.Correction.{correction}
+use Rattle.frames_rules.specs.Reading.{formatOf}
+use Rattle.planner_rules.specs.declared.entry.Entry.{Entry}
 use Rattle.station.specs.declared.correcting.Corrected.{Corrected}
-use Rattle.histories.specs.declared.state.Targets.{Targets}
-use Rattle.histories.specs.declared.state.Plan.{Plan}
-use Rattle.histories.specs.declared.state.Station.{Station}
-use Rattle.histories.specs.Replies.{expected, valueIn, delayOf, ofFormat, targetsHeard, entryNumbered, planAnswered, heard, Replied, refusedReply, settled, corrected}
+use Rattle.station_rules.specs.declared.state.Targets.{Targets}
+use Rattle.station_rules.specs.declared.state.Plan.{Plan}
+use Rattle.station_rules.specs.declared.state.Station.{Station}
+use Rattle.station_rules.specs.Replies.{expected, valueIn, delayOf, ofFormat, targetsHeard, entryNumbered, planAnswered, afterReply, Replied, refusedReply, settled, corrected}
 use Rattle.station.specs.Trials.{outcome}
 use Rattle.station.proofs.Trials.{Alike, both-refuse, both-give, alike}
 
@@ -56,7 +55,7 @@ module _ (s : Station) (k start : ℕ) (msg marks out : List ℕ) (e : Entry) (q
 
   pub settled-taken : r .number ≡ 0 → (v : ℕ) → v ≡ valueIn after → (d : ℤ) → d ≡ delayOf e start → (t : Targets) → t ≡ targetsHeard (e .ask .request) v (s .targets) → (p : Plan) → p ≡ planAnswered k (s .plan)
       → _≡_ {A = Replied} (record { number = 0; flips = r .flips; delay = d; output = after; station = record { targets = t; waiting = s .waiting; plan = p; setup = s .setup } }) (settled k start out (corrected k msg marks out s) s)
-  unfolding settled heard
+  unfolding settled afterReply
   settled-taken z v ve d de t te p pe =
       let n : corrected k msg marks out s .number ≡ 0 = sym (ap (λ (x : Outcome). x .number) is-corrected) ∙ z in
       let fl : r .flips ≡ corrected k msg marks out s .flips = ap (λ (x : Outcome). x .flips) is-corrected in

@@ -1,5 +1,4 @@
 -- The difference of two counts on a counter of 32 bits, and a reply's window.
--- Assumes nothing.
 use mathlib.Core.Path.{_≡_, refl}
 use mathlib.Core.Bool.{Bool, true, false}
 use native.Mathlib.Omega.{arith}
@@ -8,9 +7,9 @@ use borrow.Author.Tests.{leb-true, leb-false, le-leb, lt-leb}
 use lib.Dec.{leb}
 use Rattle.lists.specs.Lists.{pick}
 use Rattle.lists.proofs.Tests.{and-true}
-use Rattle.plans.specs.declared.entry.Entry.{Entry}
-use Rattle.plans.specs.Exchange.{earliest, latest}
-use Rattle.histories.specs.Replies.{startOf, inWindow}
+use Rattle.planner_rules.specs.declared.entry.Entry.{Entry}
+use Rattle.planner_rules.specs.Exchange.{earliest, latest}
+use Rattle.station_rules.specs.Replies.{startOf, inWindow}
 
 pub start-is : (tag from r : ℕ) → from < 2 ^ 32 → r < 2 ^ 32 → (r + from) % 2 ^ 32 ≡ tag → r ≡ startOf tag from
 unfolding startOf

@@ -1,5 +1,4 @@
 -- A correction in a buffer of its own says what one in the caller's buffer does.
--- Assumes nothing.
 use mathlib.Core.Path.{_≡_, refl, sym, ap, subst, _∙_}
 use mathlib.Core.List.{List, [], _∷_, _++_}
 use mathlib.Core.Bool.{Bool, true, false, _&&_}
@@ -12,14 +11,14 @@ use lib.ListN.{length, take, replicate, length-append}
 use lib.Seq.{length-take-le}
 use Rattle.lists.specs.Lists.{pick}
 use Rattle.lists.proofs.Tests.{and-true, or-true}
-use Rattle.remainders.specs.declared.answers.Fix.{Fix}
-use Rattle.remainders.specs.declared.answers.Fix.the-variants.{Flips, Length, Range, Marks, NoMatch, Doubt}
-use Rattle.remainders.specs.Answers.{Outcome, said, refused, numberOf, flipsOf}
-use Rattle.remainders.specs.Messages.{bits, whole}
-use Rattle.remainders.specs.Correction.{weight, matching, want, judged, sized, ranged, correction}
-use Rattle.fields.specs.Reading.{formatOf}
+use Rattle.parity_rules.specs.declared.answers.Fix.{Fix}
+use Rattle.parity_rules.specs.declared.answers.Fix.the-variants.{Flips, Length, Range, Marks, NoMatch, Doubt}
+use Rattle.parity_rules.specs.Answers.{Outcome, said, refused, fixNumber, flipsOf}
+use Rattle.parity_rules.specs.Messages.{bits, whole}
+use Rattle.parity_rules.specs.Correction.{sizeOf, matching, sought, byMatches, sized, ranged, correction}
+use Rattle.frames_rules.specs.Reading.{formatOf}
 use Rattle.station.specs.declared.correcting.Corrected.{Corrected}
-use Rattle.histories.specs.Replies.{ofFormat}
+use Rattle.station_rules.specs.Replies.{ofFormat}
 use Rattle.station.specs.Trials.{outcome, onTrial}
 
 -- ---- the lengths of a message and its buffers
@@ -44,7 +43,7 @@ pub share-fits : (t w : List ℕ) (n : ℕ) → length t ≡ n → n ≤ length 
 share-fits t w n e = omega (arith, length-append t w)
 
 -- ---- a trial, by the correction's answer
-no-flips : (x : Fix) → (numberOf x ≡ 0 → ⊥) → flipsOf x ≡ 0
+no-flips : (x : Fix) → (fixNumber x ≡ 0 → ⊥) → flipsOf x ≡ 0
 no-flips (Flips n) h = absurd (h refl)
 no-flips Length h = refl
 no-flips Range h = refl
@@ -52,20 +51,20 @@ no-flips Marks h = refl
 no-flips NoMatch h = refl
 no-flips Doubt h = refl
 
-module _ (f : ℕ) (x : Fix) (after : List ℕ) (o : Outcome) (e : said x after ≡ o) (n : ℕ) (k : n ≡ numberOf x) where
+module _ (f : ℕ) (x : Fix) (after : List ℕ) (o : Outcome) (e : said x after ≡ o) (n : ℕ) (k : n ≡ fixNumber x) where
   pub trial-refused : (n ≡ 0 → ⊥) → _≡_ {A = Outcome} (record { number = n; flips = 0; output = after }) (onTrial f o)
   unfolding onTrial
-  trial-refused z = rw (← e, ne-eqb (numberOf x) 0 (λ q. z (k ∙ q)), no-flips x (λ q. z (k ∙ q)), k)
+  trial-refused z = rw (← e, ne-eqb (fixNumber x) 0 (λ q. z (k ∙ q)), no-flips x (λ q. z (k ∙ q)), k)
 
   pub trial-other : n ≡ 0 → (m : ℕ) → m ≡ formatOf after → (m ≡ f → ⊥) → _≡_ {A = Outcome} (record { number = 14; flips = 0; output = after }) (onTrial f o)
   unfolding onTrial
-  trial-other z m g d = rw (← e, eq-eqb (numberOf x) 0 (sym k ∙ z), ne-eqb (formatOf after) f (λ q. d (g ∙ q)))
+  trial-other z m g d = rw (← e, eq-eqb (fixNumber x) 0 (sym k ∙ z), ne-eqb (formatOf after) f (λ q. d (g ∙ q)))
 
   pub trial-taken : n ≡ 0 → (m : ℕ) → m ≡ formatOf after → m ≡ f → (l : ℕ) → l ≡ flipsOf x → _≡_ {A = Outcome} (record { number = 0; flips = l; output = after }) (onTrial f o)
   unfolding onTrial
   trial-taken z m g d l u =
-      let w : numberOf x ≡ 0 = sym k ∙ z in
-      rw (← e, eq-eqb (numberOf x) 0 w, eq-eqb (formatOf after) f (sym g ∙ d), u, w)
+      let w : fixNumber x ≡ 0 = sym k ∙ z in
+      rw (← e, eq-eqb (fixNumber x) 0 w, eq-eqb (formatOf after) f (sym g ∙ d), u, w)
 
 -- ---- the outcome in one buffer and in another of the same length
 pub data Alike (a b : List ℕ) : Outcome → Outcome → Type 0 where
@@ -80,7 +79,7 @@ module _ (a b : List ℕ) where
   not-zero : (k : ℕ) → eqb k 0 ≡ false → k ≡ 0 → ⊥
   not-zero k e = eqb-false k 0 e
 
-  alike-judged : (msg : List ℕ) (ss : List (List ℕ)) → Alike a b (judged msg a ss) (judged msg b ss)
+  alike-judged : (msg : List ℕ) (ss : List (List ℕ)) → Alike a b (byMatches msg a ss) (byMatches msg b ss)
   alike-judged msg [] = both-refuse 12 (not-zero 12 refl) refl refl
   alike-judged msg (s ∷ []) = both-give refl refl
   alike-judged msg (s ∷ t ∷ r) = both-refuse 13 (not-zero 13 refl) refl refl
@@ -88,10 +87,10 @@ module _ (a b : List ℕ) where
   pub alike : length a ≡ length b → (msg marks : List ℕ) (overlay limit : ℕ) → Alike a b (correction msg marks overlay limit a) (correction msg marks overlay limit b)
   unfolding correction
   alike e msg marks overlay limit =
-      subst (λ (n : ℕ). Alike a b (correction msg marks overlay limit a) (pick (sized (length msg) (length marks) n) (pick (ranged overlay limit) (pick (leb (weight (bits marks)) limit) (judged msg b (matching (want msg overlay) (bits marks))) (refused 11 b)) (refused 2 b)) (refused 1 b))) e
+      subst (λ (n : ℕ). Alike a b (correction msg marks overlay limit a) (pick (sized (length msg) (length marks) n) (pick (ranged overlay limit) (pick (leb (sizeOf (bits marks)) limit) (byMatches msg b (matching (sought msg overlay) (bits marks))) (refused 11 b)) (refused 2 b)) (refused 1 b))) e
       (alike-pick (sized (length msg) (length marks) (length a)) _ _ _ _
       (alike-pick (ranged overlay limit) _ _ _ _
-      (alike-pick (leb (weight (bits marks)) limit) _ _ _ _ (alike-judged msg (matching (want msg overlay) (bits marks))) (both-refuse 11 (not-zero 11 refl) refl refl))
+      (alike-pick (leb (sizeOf (bits marks)) limit) _ _ _ _ (alike-judged msg (matching (sought msg overlay) (bits marks))) (both-refuse 11 (not-zero 11 refl) refl refl))
       (both-refuse 2 (not-zero 2 refl) refl refl))
       (both-refuse 1 (not-zero 1 refl) refl refl))
 

@@ -1,2 +1,2 @@
--- What the parts of a reply's code promise; the station's own definitions stand in crate histories.
+-- What the parts of a reply's code promise; the station's own definitions stand in crate station_rules.
 pub mod Trials

@@ -4,11 +4,11 @@ use mathlib.Core.List.{List}
 use lib.Dec.{eqb}
 use lib.IntN.{pos}
 use Rattle.lists.specs.Lists.{pick}
-use Rattle.remainders.specs.Answers.{Outcome}
-use Rattle.fields.specs.Reading.{formatOf}
+use Rattle.parity_rules.specs.Answers.{Outcome}
+use Rattle.frames_rules.specs.Reading.{formatOf}
 use Rattle.station.specs.declared.correcting.Corrected.{Corrected}
-use Rattle.histories.specs.declared.state.Station.{Station}
-use Rattle.histories.specs.declared.state.Reply.{Reply}
+use Rattle.station_rules.specs.declared.state.Station.{Station}
+use Rattle.station_rules.specs.declared.state.Reply.{Reply}
 
 -- a correction's number and flips, and what the buffer then holds
 abbrev pub outcome : Corrected → List ℕ → Outcome

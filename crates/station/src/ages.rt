@@ -1,10 +1,10 @@
 // Ages: each plan adds 1 to those present, up to 65,535.
 ghost use mathlib.Core.Path.{_≡_};
-ghost use Rattle.histories.specs.State.{ageAfter, valueAfter, older, targetsOlder};
+ghost use Rattle.station_rules.specs.State.{ageAfter, valueAfter, older, targetsOlder};
 use crate::slots::live;
-use histories::Target;
-use histories::Targets;
-use histories::Value;
+use station_rules::Target;
+use station_rules::Targets;
+use station_rules::Value;
 
 // An age after one plan more.
 fn age_after(age: u16) -> u16

@@ -1,17 +1,17 @@
 // The calls on targets and requests: new target, removal, move, request, report.
 ghost use mathlib.Core.Path.{_≡_};
-ghost use Rattle.histories.specs.Calls.{newTarget, removed, moved, requested, refusedReport, reported};
+ghost use Rattle.station_rules.specs.Calls.{newTarget, removed, moved, requested, refusedReport, reported};
 use crate::entries::all_withdrawn;
 use crate::ranges::request_ranged;
 use crate::ranges::target_ranged;
 use crate::targets;
 use crate::waiting;
-use histories::Answer;
-use histories::Report;
-use histories::Station;
-use histories::Target;
-use histories::Value;
-use plans::Request;
+use planner_rules::Request;
+use station_rules::Answer;
+use station_rules::Report;
+use station_rules::Station;
+use station_rules::Target;
+use station_rules::Value;
 
 // A new target is the last in the list, and nothing was heard of it.
 pub fn add_target(s: Station, address: u32, near: u16, far: u16) -> Answer

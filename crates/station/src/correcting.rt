@@ -3,10 +3,10 @@ ghost use mathlib.Core.Path.{_≡_};
 ghost use mathlib.Core.Bool.{true};
 ghost use Prim.Native.Nat.{_<_};
 ghost use lib.ListN.{length};
-ghost use Rattle.remainders.specs.Answers.{numberOf, flipsOf};
-ghost use Rattle.remainders.specs.Correction.{sized, correction};
-ghost use Rattle.fields.specs.Reading.{formatOf};
-ghost use Rattle.histories.specs.Replies.{valueIn, ofFormat};
+ghost use Rattle.parity_rules.specs.Answers.{fixNumber, flipsOf};
+ghost use Rattle.parity_rules.specs.Correction.{sized, correction};
+ghost use Rattle.frames_rules.specs.Reading.{formatOf};
+ghost use Rattle.station_rules.specs.Replies.{valueIn, ofFormat};
 ghost use Rattle.station.specs.Trials.{outcome, onTrial};
 use parity::Fix;
 
@@ -18,7 +18,7 @@ pub struct Corrected {
 
 // The number of a correction.
 fn number(f: Fix) -> u8
-    ensures { λ r. ⌜ r ≡ numberOf f ⌝ }
+    ensures { λ r. ⌜ r ≡ fixNumber f ⌝ }
 {
     match f {
         Fix::Flips(_) => 0,

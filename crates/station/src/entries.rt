@@ -2,14 +2,14 @@
 ghost use mathlib.Core.Path.{_≡_};
 ghost use Prim.Native.Nat.{_<_};
 ghost use lib.ListN.{length, getD};
-ghost use Rattle.histories.specs.State.{entriesOf, noAsk, noEntry, markWithdrawn, withdrawn, planWithdrawn};
-ghost use Rattle.histories.specs.Replies.{isOpen, planAnswered};
+ghost use Rattle.station_rules.specs.State.{entriesOf, noAsk, noEntry, statusWithdrawn, withdrawn, planWithdrawn};
+ghost use Rattle.station_rules.specs.Replies.{isOpen, planAnswered};
 use crate::slots::live;
 use crate::waiting::no_request;
-use histories::Plan;
-use plans::Ask;
-use plans::Entry;
-use plans::Mark;
+use planner_rules::Ask;
+use planner_rules::Entry;
+use planner_rules::Status;
+use station_rules::Plan;
 
 // A slot that holds no request with its edges.
 pub(crate) fn no_ask() -> Ask
@@ -31,7 +31,7 @@ pub(crate) fn no_entry() -> Entry
     Entry {
         ask: a,
         start: 0,
-        mark: Mark::Open,
+        status: Status::Open,
     }
 }
 
@@ -52,14 +52,14 @@ pub(crate) fn entry_of(p: Plan, k: usize) -> Entry
     no_entry()
 }
 
-// Whether an entry with this mark still waits for its reply.
-pub(crate) fn is_open(m: Mark) -> bool
+// Whether an entry with this status still waits for its reply.
+pub(crate) fn is_open(m: Status) -> bool
     ensures { λ r. ⌜ r ≡ isOpen m ⌝ }
 {
     match m {
-        Mark::Open => true,
-        Mark::Answered => false,
-        Mark::Withdrawn => false,
+        Status::Open => true,
+        Status::Answered => false,
+        Status::Withdrawn => false,
     }
 }
 
@@ -74,7 +74,7 @@ pub(crate) fn answered(p: Plan, k: usize) -> Plan
     let f = Entry {
         ask: a,
         start: e.start,
-        mark: Mark::Answered,
+        status: Status::Answered,
     };
     let mut out = p;
     out.list[k] = f;
@@ -82,14 +82,14 @@ pub(crate) fn answered(p: Plan, k: usize) -> Plan
     out
 }
 
-// What becomes of a mark when its target is removed.
-fn mark_withdrawn(m: Mark) -> Mark
-    ensures { λ r. ⌜ r ≡ markWithdrawn m ⌝ }
+// What becomes of a status when its target is removed.
+fn status_withdrawn(m: Status) -> Status
+    ensures { λ r. ⌜ r ≡ statusWithdrawn m ⌝ }
 {
     match m {
-        Mark::Open => Mark::Withdrawn,
-        Mark::Answered => Mark::Answered,
-        Mark::Withdrawn => Mark::Withdrawn,
+        Status::Open => Status::Withdrawn,
+        Status::Answered => Status::Answered,
+        Status::Withdrawn => Status::Withdrawn,
     }
 }
 
@@ -101,12 +101,12 @@ fn withdraw(e: Entry, address: u32) -> Entry
         return e;
     }
     let a = e.ask;
-    let m = e.mark;
-    let next = mark_withdrawn(m);
+    let m = e.status;
+    let next = status_withdrawn(m);
     Entry {
         ask: a,
         start: e.start,
-        mark: next,
+        status: next,
     }
 }
 

@@ -1,4 +1,4 @@
-// The calls of the station of document 01: targets, requests, plans in force, replies and ages. Their definitions stand in crate histories.
+// The calls of the station of document 01: targets, requests, plans in force, replies and ages. Their definitions stand in crate station_rules.
 mod ages;
 mod calls;
 mod correcting;
@@ -18,16 +18,16 @@ pub use calls::remove_target;
 pub use calls::report_on;
 pub use calls::take_request;
 pub use entries::entry_count;
-pub use histories::Answer;
-pub use histories::Plan;
-pub use histories::Reply;
-pub use histories::Report;
-pub use histories::Station;
-pub use histories::Target;
-pub use histories::Targets;
-pub use histories::Value;
-pub use histories::Waiting;
 pub use planning::plan_period;
 pub use replies::take_reply;
-pub use setting::blank;
+pub use setting::before_setup;
 pub use setting::set_up;
+pub use station_rules::Answer;
+pub use station_rules::Plan;
+pub use station_rules::Reply;
+pub use station_rules::Report;
+pub use station_rules::Station;
+pub use station_rules::Target;
+pub use station_rules::Targets;
+pub use station_rules::Value;
+pub use station_rules::Waiting;

@@ -2,19 +2,19 @@
 ghost use mathlib.Core.Path.{_≡_};
 ghost use mathlib.Core.List.{map};
 ghost use lib.ListN.{take};
-ghost use Rattle.histories.specs.State.{requestsOf, waitingAs};
-ghost use Rattle.histories.specs.Planning.{askFor, requestOf, asksAs, nextPlan};
+ghost use Rattle.station_rules.specs.State.{requestsOf, waitingAs};
+ghost use Rattle.station_rules.specs.Planning.{askFor, requestOf, asksAs, nextPlan};
 use crate::ages::all_older;
 use crate::entries::no_ask;
 use crate::slots::live;
 use crate::targets::target_at;
-use histories::Plan;
-use histories::Station;
-use histories::Targets;
-use histories::Waiting;
-use plans::Ask;
-use plans::Asks;
-use plans::Request;
+use planner_rules::Ask;
+use planner_rules::Asks;
+use planner_rules::Request;
+use station_rules::Plan;
+use station_rules::Station;
+use station_rules::Targets;
+use station_rules::Waiting;
 
 // A request with near and far of its target as they are now.
 fn ask_for(t: Targets, q: Request) -> Ask

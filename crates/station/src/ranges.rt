@@ -1,7 +1,7 @@
 // The ranges of a target and of a request.
 ghost use mathlib.Core.Path.{_≡_};
-ghost use Rattle.histories.specs.Calls.{targetRanged, requestRanged};
-use plans::Request;
+ghost use Rattle.station_rules.specs.Calls.{targetRanged, requestRanged};
+use planner_rules::Request;
 
 // Whether address, near and far of a target are in their ranges: near ≤ far ≤ R.
 pub(crate) fn target_ranged(address: u32, near: u16, far: u16, reach: u16) -> bool

@@ -3,9 +3,9 @@ ghost use mathlib.Core.Path.{_≡_};
 ghost use mathlib.Core.Bool.{true};
 ghost use Prim.Native.Nat.{_<_};
 ghost use lib.ListN.{length};
-ghost use Rattle.remainders.specs.Correction.{sized};
-ghost use Rattle.histories.specs.State.{entriesOf};
-ghost use Rattle.histories.specs.Replies.{expected, holdsID, inWindow, saidIn, targetsHeard, entryNumbered, told, corrected, settled, replied};
+ghost use Rattle.parity_rules.specs.Correction.{sized};
+ghost use Rattle.station_rules.specs.State.{entriesOf};
+ghost use Rattle.station_rules.specs.Replies.{expected, holdsID, inWindow, saidIn, targetsHeard, entryNumbered, told, corrected, settled, replied};
 ghost use Rattle.station.specs.Trials.{refusal};
 use crate::correcting::correct_as;
 use crate::correcting::value_in;
@@ -19,12 +19,12 @@ use crate::windows::delay;
 use crate::windows::in_window;
 use crate::windows::start_of;
 use frames::Draws;
-use histories::Reply;
-use histories::Station;
-use histories::Target;
-use histories::Targets;
-use histories::Value;
-use plans::Request;
+use planner_rules::Request;
+use station_rules::Reply;
+use station_rules::Station;
+use station_rules::Target;
+use station_rules::Targets;
+use station_rules::Value;
 
 // The format of the reply that a request expects.
 fn expected(q: Request) -> u8
@@ -134,7 +134,7 @@ pub fn take_reply(
 ) -> Reply
     ensures { λ r. ⌜ told r (now (out .exit)) ≡ replied s entry tag (now (msg .entry)) (now (marks .entry)) (now (out .entry)) ⌝ }
 {
-    if !parity::fitting(msg.len(), marks.len(), out.len()) {
+    if !parity::sized(msg.len(), marks.len(), out.len()) {
         return refused(1, s);
     }
     let p = s.plan;
@@ -142,7 +142,7 @@ pub fn take_reply(
         return refused(7, s);
     }
     let e = entry_of(p, entry);
-    let m = e.mark;
+    let m = e.status;
     if !is_open(m) {
         return refused(8, s);
     }

@@ -1,18 +1,18 @@
 // The station before a setup, and the setup, which empties everything.
 ghost use mathlib.Core.Path.{_≡_};
 ghost use lib.ListN.{replicate};
-ghost use Rattle.histories.specs.State.{fresh, emptied, blank};
-ghost use Rattle.histories.specs.Calls.{setUp};
+ghost use Rattle.station_rules.specs.State.{fresh, emptied, beforeSetup};
+ghost use Rattle.station_rules.specs.Calls.{setUp};
 use crate::entries::no_entry;
 use crate::targets::fresh;
 use crate::waiting::no_request;
-use histories::Answer;
-use histories::Plan;
-use histories::Station;
-use histories::Target;
-use histories::Targets;
-use histories::Waiting;
-use plans::Setup;
+use planner_rules::Setup;
+use station_rules::Answer;
+use station_rules::Plan;
+use station_rules::Station;
+use station_rules::Target;
+use station_rules::Targets;
+use station_rules::Waiting;
 
 // The slots of an empty target list. The loop writes what stands there already: it keeps the list whole in memory, where 64 stores at
 // known places would let the compiler take it apart and copy it slot by slot in every call (docs/PERFORMANCE.md).
@@ -30,8 +30,8 @@ fn no_targets() -> [Target; 64]
 }
 
 // The station before any setup: L, R, limit, guarantees and ceilings are 0, and every slot of a list is the same.
-pub fn blank() -> Station
-    ensures { λ r. ⌜ r ≡ blank ⌝ }
+pub fn before_setup() -> Station
+    ensures { λ r. ⌜ r ≡ beforeSetup ⌝ }
 {
     let xs = no_targets();
     let q = no_request();

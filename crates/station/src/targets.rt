@@ -3,12 +3,12 @@ ghost use mathlib.Core.Path.{_≡_};
 ghost use mathlib.Core.Bool.{true};
 ghost use Prim.Native.Nat.{_<_};
 ghost use lib.ListN.{length};
-ghost use Rattle.histories.specs.State.{targetsOf, placeIn, inList, fresh, targetAt, targetsWith, targetsWithout, targetsPut};
-ghost use Rattle.histories.specs.Calls.{targetsFull};
+ghost use Rattle.station_rules.specs.State.{targetsOf, placeIn, inList, fresh, targetAt, targetsWith, targetsWithout, targetsPut};
+ghost use Rattle.station_rules.specs.Calls.{targetsFull};
 use crate::slots::live;
-use histories::Target;
-use histories::Targets;
-use histories::Value;
+use station_rules::Target;
+use station_rules::Targets;
+use station_rules::Value;
 
 // A target of which nothing was heard.
 pub(crate) fn fresh(address: u32, near: u16, far: u16) -> Target

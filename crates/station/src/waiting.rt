@@ -3,11 +3,11 @@ ghost use mathlib.Core.Path.{_≡_};
 ghost use Prim.Native.Nat.{_<_};
 ghost use lib.ListN.{length};
 ghost use Rattle.lists.specs.Lists.{countOf};
-ghost use Rattle.histories.specs.State.{requestsOf, isOf, waitingWith, waitingWithout, noRequest};
-ghost use Rattle.histories.specs.Calls.{unitFull};
+ghost use Rattle.station_rules.specs.State.{requestsOf, isOf, waitingWith, waitingWithout, noRequest};
+ghost use Rattle.station_rules.specs.Calls.{unitFull};
 use crate::slots::live;
-use histories::Waiting;
-use plans::Request;
+use planner_rules::Request;
+use station_rules::Waiting;
 
 // A slot that holds no request.
 pub(crate) fn no_request() -> Request

@@ -5,10 +5,10 @@ ghost use Prim.Native.Nat.{_<_};
 ghost use lib.IntN.{subℕ};
 ghost use mir.Syntax.{w32};
 ghost use mir.Val.{SFits};
-ghost use Rattle.histories.specs.Replies.{startOf, inWindow, delayOf};
+ghost use Rattle.station_rules.specs.Replies.{startOf, inWindow, delayOf};
 use crate::ranges::wide;
 use planner::Exchange;
-use plans::Entry;
+use planner_rules::Entry;
 
 // A reply's start: its tag minus the plan's tag, on a counter of 32 bits that wraps.
 pub(crate) fn start_of(tag: u32, from: u32) -> u32

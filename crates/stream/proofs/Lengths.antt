@@ -7,10 +7,10 @@ use lib.IntN.{ℤ, pos, negsuc}
 use lib.ListN.{length}
 use mir.Syntax.{w32}
 use mir.Val.{SFits}
-use Rattle.letters.specs.Put.{Put}
-use Rattle.letters.specs.Signed.{signedDecimal}
-use Rattle.letters.proofs.Decimal.{decimal-fits}
-use Rattle.letters.proofs.Laid.{put-then}
+use Rattle.text_rules.specs.Put.{Put}
+use Rattle.text_rules.specs.Signed.{signedDecimal}
+use Rattle.text_rules.proofs.Decimal.{decimal-fits}
+use Rattle.text_rules.proofs.Laid.{put-then}
 use Rattle.stream.specs.Calls.{Within}
 
 -- a number of 32 bits with its sign: the sign and ten digits

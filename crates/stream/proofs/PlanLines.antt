@@ -5,12 +5,12 @@ use mathlib.Core.Path.{_≡_}
 use mathlib.Core.List.{List, [], _∷_, _++_}
 use lib.ListN.{length, getD, take, drop}
 use Rattle.lists.proofs.Front.{front-drop, front-end}
-use Rattle.letters.specs.Put.{decimal}
-use Rattle.plans.specs.declared.entry.Entry.{Entry}
-use Rattle.plans.specs.Exchange.{exchangeOf}
+use Rattle.text_rules.specs.Put.{decimal}
+use Rattle.planner_rules.specs.declared.entry.Entry.{Entry}
+use Rattle.planner_rules.specs.Exchange.{exchangeOf}
 use Rattle.planner.specs.declared.exchange.Exchange.{Exchange}
 use Rattle.planner.specs.Promises.{held}
-use Rattle.transcripts.specs.Lines.{line, entryLine, entryLines}
+use Rattle.stream_rules.specs.Lines.{line, entryLine, entryLines}
 use Rattle.stream.specs.Calls.{Within}
 
 pub entries-more : (m : ℕ) (l : List Entry) (i : ℕ) (d : Entry) → i < min m (length l)

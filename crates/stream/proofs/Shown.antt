@@ -6,11 +6,11 @@ use mathlib.Core.Bool.{true, false}
 use mathlib.Core.List.{List, _++_}
 use lib.ListN.{length, take, drop, length-take, length-append}
 use lib.Seq.{take-at}
-use Rattle.letters.proofs.Laid.{length-laid, laid-split}
-use Rattle.transcripts.specs.declared.run.Run.{Run}
-use Rattle.transcripts.specs.declared.run.Progress.{Progress}
-use Rattle.transcripts.specs.Run.{linesNow, isFull, room}
-use Rattle.transcripts.proofs.Runs.{left, falls, not-full}
+use Rattle.text_rules.proofs.Laid.{length-laid, laid-split}
+use Rattle.stream_rules.specs.declared.run.Run.{Run}
+use Rattle.stream_rules.specs.declared.run.Progress.{Progress}
+use Rattle.stream_rules.specs.Run.{linesNow, isFull, room}
+use Rattle.stream_rules.proofs.Runs.{left, falls, not-full}
 use Rattle.stream.specs.Calls.{Advanced}
 
 -- the bytes left fall with each step, so the program ends

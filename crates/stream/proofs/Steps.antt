@@ -9,24 +9,24 @@ use borrow.Author.Tests.{eq-eqb, ne-eqb, eqb-true, eqb-false}
 use mathlib.Core.Logic.{_⊎_, ⊎-elim}
 use lib.Dec.{eqb}
 use Rattle.lists.specs.Lists.{pick}
-use Rattle.records.specs.declared.fields.Reply.{Reply}
-use Rattle.records.specs.declared.reading.Found.{Found}
-use Rattle.records.specs.declared.reading.Found.the-variants.{End, Unknown, Cut, Whole}
-use Rattle.records.specs.Records.{messageLength, recordAt, nextPlace}
-use Rattle.records.specs.Fields.{replyAt}
-use Rattle.records.proofs.Parts.{parts-in-order}
-use Rattle.histories.specs.declared.state.Station.{Station}
-use Rattle.histories.specs.declared.state.Report.{Report}
-use Rattle.histories.specs.Calls.{refused}
-use Rattle.histories.specs.Replies.{Replied}
+use Rattle.reader_rules.specs.declared.fields.Reply.{Reply}
+use Rattle.reader_rules.specs.declared.reading.Found.{Found}
+use Rattle.reader_rules.specs.declared.reading.Found.the-variants.{End, Unknown, Cut, Whole}
+use Rattle.reader_rules.specs.Records.{messageLength, recordAt, nextPlace}
+use Rattle.reader_rules.specs.Fields.{replyAt}
+use Rattle.reader_rules.proofs.Parts.{parts-in-order}
+use Rattle.station_rules.specs.declared.state.Station.{Station}
+use Rattle.station_rules.specs.declared.state.Report.{Report}
+use Rattle.station_rules.specs.Calls.{refused}
+use Rattle.station_rules.specs.Replies.{Replied}
 use Rattle.stream.specs.declared.obey.Done.{Done}
-use Rattle.transcripts.specs.Lines.{answerLine, replyLine, reportLine}
+use Rattle.stream_rules.specs.Lines.{answerLine, replyLine, reportLine}
 use Rattle.stream.specs.Calls.{Within, Did, Stepped, Advanced}
 use Rattle.stream.specs.declared.step.Step.{Step}
-use Rattle.transcripts.specs.declared.run.Run.{Run}
-use Rattle.transcripts.proofs.Runs.{stays-ended, lays-nothing}
-use Rattle.transcripts.specs.Step.{Outcome, answered, repliedTo, replyTo, zeros, reportedTo, obeyed}
-use Rattle.transcripts.specs.Run.{outcome, goesOn, outcomeNow, linesNow, stepped, advanced, longest}
+use Rattle.stream_rules.specs.declared.run.Run.{Run}
+use Rattle.stream_rules.proofs.Runs.{stays-ended, lays-nothing}
+use Rattle.stream_rules.specs.Step.{Outcome, answered, repliedTo, replyTo, zeros, reportedTo, obeyed}
+use Rattle.stream_rules.specs.Run.{outcome, goesOn, outcomeNow, linesNow, stepped, advanced, longest}
 use Rattle.stream.proofs.Lengths.{within-more, within-of}
 
 -- an outcome by another name

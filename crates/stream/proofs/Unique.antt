@@ -2,8 +2,8 @@
 use Prim.Native.Nat.{ℕ}
 use mathlib.Core.Path.{_≡_, sym, _∙_}
 use mathlib.Core.List.{List}
-use Rattle.transcripts.specs.declared.run.Run.{Run}
-use Rattle.transcripts.specs.declared.run.Progress.{Progress}
+use Rattle.stream_rules.specs.declared.run.Run.{Run}
+use Rattle.stream_rules.specs.declared.run.Progress.{Progress}
 use Rattle.stream.specs.Calls.{Within, Advanced}
 
 -- of a text that was laid, the buffer and the place after it

@@ -2,13 +2,13 @@
 use Prim.Native.Nat.{ℕ, _+_, _≤_}
 use mathlib.Core.List.{List}
 use mathlib.Core.Path.{_≡_}
-use Rattle.letters.specs.Put.{Put}
-use Rattle.records.specs.Records.{recordAt, nextPlace}
-use Rattle.histories.specs.declared.state.Station.{Station}
-use Rattle.transcripts.specs.declared.run.Run.{Run}
-use Rattle.transcripts.specs.declared.run.Progress.{Progress}
-use Rattle.transcripts.specs.Step.{Outcome}
-use Rattle.transcripts.specs.Run.{outcome, goesOn, linesNow, advanced, longest}
+use Rattle.text_rules.specs.Put.{Put}
+use Rattle.reader_rules.specs.Records.{recordAt, nextPlace}
+use Rattle.station_rules.specs.declared.state.Station.{Station}
+use Rattle.stream_rules.specs.declared.run.Run.{Run}
+use Rattle.stream_rules.specs.declared.run.Progress.{Progress}
+use Rattle.stream_rules.specs.Step.{Outcome}
+use Rattle.stream_rules.specs.Run.{outcome, goesOn, linesNow, advanced, longest}
 use Rattle.stream.specs.declared.obey.Done.{Done}
 use Rattle.stream.specs.declared.step.Step.{Step}
 

@@ -1,5 +1,5 @@
 // The line that every record prints: number, kind, answer.
-ghost use Rattle.transcripts.specs.Lines.{answerLine, replyLine};
+ghost use Rattle.stream_rules.specs.Lines.{answerLine, replyLine};
 ghost use Rattle.stream.specs.Calls.{Within};
 use crate::words::NEWLINE;
 use crate::words::SPACE;

@@ -3,17 +3,17 @@ ghost use Prim.Native.Nat.{_≤_, min};
 ghost use mathlib.Core.Path.{_≡_};
 ghost use mathlib.Core.List.{_∷_, []};
 ghost use lib.ListN.{take};
-ghost use Rattle.letters.specs.Put.{decimal};
-ghost use Rattle.transcripts.specs.Lines.{line, entryLine, entryLines};
+ghost use Rattle.text_rules.specs.Put.{decimal};
+ghost use Rattle.stream_rules.specs.Lines.{line, entryLine, entryLines};
 ghost use Rattle.stream.specs.Calls.{Within};
 use crate::words::NEWLINE;
 use crate::words::SPACE;
 use crate::words::put_number;
 use planner::Exchange;
-use plans::Entry;
+use planner_rules::Entry;
 
 // A line of six numbers.
-fn put_six(out: &mut [u8], at: usize, a: u32, b: u32, c: u32, d: u32, e: u32, f: u32) -> usize
+fn put_numbers(out: &mut [u8], at: usize, a: u32, b: u32, c: u32, d: u32, e: u32, f: u32) -> usize
     ensures { λ r. ⌜ Within 72 (line (decimal a ∷ decimal b ∷ decimal c ∷ decimal d ∷ decimal e ∷ decimal f ∷ [])) at (now (out .entry)) (now (out .exit)) r ⌝ }
 {
     let at_b = put_number(out, at, a, SPACE);
@@ -33,7 +33,7 @@ pub fn put_entry(out: &mut [u8], at: usize, k: u32, e: Entry) -> usize
     let start = e.start as u32;
     let from = start + x.from;
     let to = start + x.to;
-    put_six(
+    put_numbers(
         out,
         at,
         k,

@@ -1,15 +1,15 @@
 // What a record of each kind does: the station afterwards, and its lines at a place of the buffer.
-ghost use Rattle.histories.specs.Calls.{setUp, newTarget, removed, moved, requested, reported};
-ghost use Rattle.histories.specs.Planning.{nextPlan};
-ghost use Rattle.records.specs.Fields.{setupAt, edgesAt, addressAt, requestAt, tagAt};
-ghost use Rattle.transcripts.specs.Step.{answered, planned, reportedTo, obeyed};
+ghost use Rattle.station_rules.specs.Calls.{setUp, newTarget, removed, moved, requested, reported};
+ghost use Rattle.station_rules.specs.Planning.{nextPlan};
+ghost use Rattle.reader_rules.specs.Fields.{setupAt, edgesAt, addressAt, requestAt, tagAt};
+ghost use Rattle.stream_rules.specs.Step.{answered, plannedTo, reportedTo, obeyed};
 ghost use Rattle.stream.specs.Calls.{Did};
 use crate::answers::put_answer;
 use crate::entries::put_entries;
 use crate::replies::obey_reply;
 use crate::report::put_report;
-use histories::Answer;
-use histories::Station;
+use station_rules::Answer;
+use station_rules::Station;
 
 // The station afterwards, and the place behind the lines.
 pub(crate) struct Done {
@@ -37,7 +37,7 @@ fn obey_setup(s: &[u8], b: usize, n: u32, st: Station, out: &mut [u8], at: usize
     put_answered(n, 1, a, out, at)
 }
 
-fn obey_new(s: &[u8], b: usize, n: u32, st: Station, out: &mut [u8], at: usize) -> Done
+fn obey_new_target(s: &[u8], b: usize, n: u32, st: Station, out: &mut [u8], at: usize) -> Done
     ensures { λ r. ⌜ Did (answered n 2 (newTarget st (edgesAt (now (s .entry)) b .address) (edgesAt (now (s .entry)) b .near) (edgesAt (now (s .entry)) b .far))) at (now (out .entry)) (now (out .exit)) r ⌝ }
 {
     let e = reader::edges_at(s, b);
@@ -63,7 +63,7 @@ fn obey_request(s: &[u8], b: usize, n: u32, st: Station, out: &mut [u8], at: usi
 
 // A plan adds a line for each entry.
 fn obey_plan(s: &[u8], b: usize, n: u32, st: Station, out: &mut [u8], at: usize) -> Done
-    ensures { λ r. ⌜ Did (planned n (nextPlan st (tagAt (now (s .entry)) b))) at (now (out .entry)) (now (out .exit)) r ⌝ }
+    ensures { λ r. ⌜ Did (plannedTo n (nextPlan st (tagAt (now (s .entry)) b))) at (now (out .entry)) (now (out .exit)) r ⌝ }
 {
     let tag = reader::tag_at(s, b);
     let after = station::plan_period(st, tag);
@@ -121,7 +121,7 @@ pub(crate) fn obey(
 {
     match kind {
         1 => obey_setup(s, b, n, st, out, at),
-        2 => obey_new(s, b, n, st, out, at),
+        2 => obey_new_target(s, b, n, st, out, at),
         3 => obey_remove(s, b, n, st, out, at),
         4 => obey_request(s, b, n, st, out, at),
         5 => obey_plan(s, b, n, st, out, at),

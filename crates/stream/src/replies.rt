@@ -1,13 +1,13 @@
 // What a reply does: the corrected message goes to a buffer of its own and is not printed.
 ghost use mathlib.Core.List.{[]};
-ghost use Rattle.histories.specs.Replies.{told};
-ghost use Rattle.transcripts.specs.Step.{repliedTo, replyTo, zeros};
+ghost use Rattle.station_rules.specs.Replies.{told};
+ghost use Rattle.stream_rules.specs.Step.{repliedTo, replyTo, zeros};
 ghost use Rattle.stream.specs.Calls.{Did};
 use crate::answers::put_answer;
 use crate::answers::put_reply_answer;
 use crate::obey::Done;
-use histories::Reply;
-use histories::Station;
+use station_rules::Reply;
+use station_rules::Station;
 
 // A taken reply adds flips and delay on its line.
 fn put_replied(n: u32, kind: u8, r: Reply, out: &mut [u8], at: usize) -> Done

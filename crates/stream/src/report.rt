@@ -1,11 +1,11 @@
 // The line of a report: what was heard of a target, and how many plans ago.
 ghost use mathlib.Core.List.{[], _∷_, _++_};
-ghost use Rattle.transcripts.specs.Lines.{followed, valueWord, ageWord, reportLine};
+ghost use Rattle.stream_rules.specs.Lines.{followed, valueWord, ageWord, reportLine};
 ghost use Rattle.stream.specs.Calls.{Within};
 use crate::words::NEWLINE;
 use crate::words::SPACE;
 use crate::words::put_number;
-use histories::Value;
+use station_rules::Value;
 
 // A dash, and the byte behind it.
 fn put_dash(out: &mut [u8], at: usize, behind: u8) -> usize

@@ -1,11 +1,11 @@
 // The run of a stream, one record after the other.
 ghost use mathlib.Core.Path.{_≡_};
-ghost use Rattle.transcripts.specs.Run.{begun, isFull};
+ghost use Rattle.stream_rules.specs.Run.{begun, isFull};
 ghost use Rattle.stream.specs.Calls.{Advanced};
 use crate::step::put_step;
 use crate::words::put_nothing;
-use transcripts::Progress;
-use transcripts::Run;
+use stream_rules::Progress;
+use stream_rules::Run;
 
 // The bytes of the buffer in which lines are held back, and the most that the lines of one record have.
 pub const ROOM: usize = 10240;
@@ -16,7 +16,7 @@ const LONGEST: usize = 9252;
 pub fn begin() -> Run
     ensures { λ r. ⌜ r ≡ begun ⌝ }
 {
-    let station = station::blank();
+    let station = station::before_setup();
     Run {
         station: station,
         at: 0,

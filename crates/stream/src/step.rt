@@ -3,8 +3,8 @@ ghost use Rattle.stream.specs.Calls.{Stepped};
 use crate::answers::put_answer;
 use crate::obey::obey;
 use crate::words::put_nothing;
-use histories::Station;
-use records::Found;
+use reader_rules::Found;
+use station_rules::Station;
 
 // The station afterwards, whether the run goes on and where, and the place behind the lines.
 pub(crate) struct Step {

@@ -1,7 +1,7 @@
 // A word of a line and the byte behind it: a space, or the newline that ends the line.
 ghost use mathlib.Core.List.{[]};
-ghost use Rattle.letters.specs.Put.{decimal};
-ghost use Rattle.transcripts.specs.Lines.{followed};
+ghost use Rattle.text_rules.specs.Put.{decimal};
+ghost use Rattle.stream_rules.specs.Lines.{followed};
 ghost use Rattle.stream.specs.Calls.{Within};
 
 pub(crate) const SPACE: u8 = 32;

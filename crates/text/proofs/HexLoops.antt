@@ -9,8 +9,8 @@ use lib.Seq.{drop-cons}
 use lib.ListN.{length, getD, set, drop, drop-of-length-le}
 use lib.Dec.{ltb}
 use borrow.Author.Tests.{lt-ltb, le-ltb, ltb-true, ltb-false}
-use Rattle.letters.specs.Put.{laid}
-use Rattle.letters.specs.Hex.{hexIn, hexOf, upperOf, hexValue, allHex, pairs}
+use Rattle.text_rules.specs.Put.{laid}
+use Rattle.text_rules.specs.Hex.{hexIn, hexOf, upperOf, hexValue, allHex, pairs}
 
 -- ---- put part by part
 

@@ -9,9 +9,9 @@ use lib.ListN.{take}
 use lib.Dec.{ltb}
 use borrow.Author.Tests.{lt-ltb, le-ltb, ltb-true, ltb-false}
 use Rattle.io.specs.Digits.{glyph, digits, Fewest}
-use Rattle.letters.specs.Put.{decimal}
-use Rattle.letters.specs.Hex.{hexDigit, hexIn, upperOf}
-use Rattle.letters.proofs.Decimal.{decimal-small, decimal-more}
+use Rattle.text_rules.specs.Put.{decimal}
+use Rattle.text_rules.specs.Hex.{hexDigit, hexIn, upperOf}
+use Rattle.text_rules.proofs.Decimal.{decimal-small, decimal-more}
 
 -- ---- decimal
 

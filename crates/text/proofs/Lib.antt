@@ -1,4 +1,4 @@
--- What the proofs of the calls need beside the laws of crate letters: the kit's digits, 32-bit signs, and what loops keep true.
+-- What the proofs of the calls need beside the laws of crate text_rules: the kit's digits, 32-bit signs, and what loops keep true.
 mod Kit
 mod Sizes
 mod HexLoops

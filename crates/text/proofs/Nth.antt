@@ -8,9 +8,9 @@ use lib.Dec.{ltb}
 use lib.ListN.{length, getD, drop, length-drop}
 use lib.Seq.{drop-drop, getD-drop}
 use borrow.Author.Tests.{ltb-true, ltb-false}
-use Rattle.letters.specs.declared.answer.Span.{Span}
-use Rattle.letters.specs.Line.{wordsOf, wordAt, nthAt, within, NextWord, NthWord}
-use Rattle.letters.proofs.Words.{word-to, word-from, word-after, words-from, words-next, words-end}
+use Rattle.text_rules.specs.declared.answer.Span.{Span}
+use Rattle.text_rules.specs.Line.{wordsOf, wordAt, nthAt, within, NextWord, NthWord}
+use Rattle.text_rules.proofs.Words.{word-to, word-from, word-after, words-from, words-next, words-end}
 
 module _ (line : List ℕ) (at : ℕ) where
   behind-by : (t : Bool) → ltb (wordAt line at .from) (wordAt line at .to) ≡ t → drop 1 (wordsOf (drop at line)) ≡ wordsOf (drop (wordAt line at .to) line)

@@ -10,9 +10,9 @@ use lib.ListN.{length, getD, drop, drop-of-length-le}
 use lib.Dec.{ltb}
 use borrow.Author.Tests.{lt-ltb, le-ltb, le-leb, lt-leb}
 use Rattle.lists.specs.Lists.{pick}
-use Rattle.letters.specs.Number.{between, isDigit, allDigits, valueAfter, numberIn}
-use Rattle.letters.specs.declared.answer.Number.{Number}
-use Rattle.letters.specs.declared.answer.Number.the-variants.{Is, Not}
+use Rattle.text_rules.specs.Number.{between, isDigit, allDigits, valueAfter, numberIn}
+use Rattle.text_rules.specs.declared.answer.Number.{Number}
+use Rattle.text_rules.specs.declared.answer.Number.the-variants.{Is, Not}
 
 -- ---- the ranges of digits
 

@@ -1,9 +1,9 @@
 // The words of a line by their number.
 ghost use mathlib.Core.Path.{_≡_};
 ghost use lib.ListN.{length};
-ghost use Rattle.letters.specs.Line.{wordsOf, NthWord};
+ghost use Rattle.text_rules.specs.Line.{wordsOf, NthWord};
 use crate::line::word;
-use letters::Span;
+use text_rules::Span;
 
 // The k-th word of a line, from 0; an empty span where there is none.
 pub fn nth_word(line: &[u8], k: usize) -> Span

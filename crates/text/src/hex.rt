@@ -4,11 +4,11 @@ ghost use mathlib.Core.Path.{_≡_};
 ghost use mathlib.Core.Bool.{true};
 ghost use mathlib.Core.List.{map};
 ghost use lib.ListN.{length};
-ghost use Rattle.letters.specs.Put.{Put, laid};
-ghost use Rattle.letters.specs.Hex.{upperOf, hexIn, hexOf, hexValue, allHex, pairs, HexRead};
+ghost use Rattle.text_rules.specs.Put.{Put, laid};
+ghost use Rattle.text_rules.specs.Hex.{upperOf, hexIn, hexOf, hexValue, allHex, pairs, HexRead};
 use crate::line::same;
 use crate::put::put_byte;
-use letters::Hex;
+use text_rules::Hex;
 
 // Two upper-case digits for each byte.
 pub fn put_hex(out: &mut [u8], at: usize, bytes: &[u8]) -> usize

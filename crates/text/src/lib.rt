@@ -1,4 +1,4 @@
-// Lines of text: words, numbers and bytes read from a line, and decimal and hex laid into a lent buffer. The definitions stand in crate letters.
+// Lines of text: words, numbers and bytes read from a line, and decimal and hex laid into a lent buffer. The definitions stand in crate text_rules.
 mod count;
 mod hex;
 mod line;
@@ -11,10 +11,6 @@ pub use count::word_count;
 pub use hex::hex_bytes;
 pub use hex::put_hex;
 pub use hex::put_hex6;
-pub use letters::Hex;
-pub use letters::Lined;
-pub use letters::Number;
-pub use letters::Span;
 pub use line::line_after;
 pub use line::line_at;
 pub use line::line_end;
@@ -25,3 +21,7 @@ pub use put::put_byte;
 pub use put::put_bytes;
 pub use put::put_decimal;
 pub use signed::put_signed;
+pub use text_rules::Hex;
+pub use text_rules::Lined;
+pub use text_rules::Number;
+pub use text_rules::Span;

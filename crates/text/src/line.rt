@@ -1,7 +1,7 @@
 // Lines of an input and words of a line, by their places.
 ghost use mathlib.Core.Path.{_≡_};
-ghost use Rattle.letters.specs.Line.{blank, inWord, runEnd, lineAfter, LineTo, LineHeld, NextWord, sameAs};
-use letters::Span;
+ghost use Rattle.text_rules.specs.Line.{blank, inWord, runEnd, lineAfter, LineTo, LineHeld, NextWord, sameAs};
+use text_rules::Span;
 
 // The place of the first newline at or after at, or the input's length.
 pub fn line_end(s: &[u8], at: usize) -> usize

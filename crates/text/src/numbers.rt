@@ -1,7 +1,7 @@
 // A word read as a decimal number.
 ghost use mathlib.Core.Path.{_≡_};
-ghost use Rattle.letters.specs.Number.{numberIn};
-use letters::Number;
+ghost use Rattle.text_rules.specs.Number.{numberIn};
+use text_rules::Number;
 
 // The number that a word of one to most decimal digits says, if it is below 2^32; leading zeros count as digits.
 pub fn number(word: &[u8], most: usize) -> Number

@@ -1,6 +1,6 @@
 // Text laid into a lent buffer, as far as the buffer goes: each call answers the place after its text.
 ghost use mathlib.Core.List.{_∷_, []};
-ghost use Rattle.letters.specs.Put.{Put, decimal};
+ghost use Rattle.text_rules.specs.Put.{Put, decimal};
 
 // One byte.
 pub fn put_byte(out: &mut [u8], at: usize, b: u8) -> usize

@@ -1,6 +1,6 @@
 // A number with its sign laid into a lent buffer.
-ghost use Rattle.letters.specs.Put.{Put};
-ghost use Rattle.letters.specs.Signed.{signedDecimal};
+ghost use Rattle.text_rules.specs.Put.{Put};
+ghost use Rattle.text_rules.specs.Signed.{signedDecimal};
 use crate::put::put_decimal;
 use crate::put::put_minus;
 

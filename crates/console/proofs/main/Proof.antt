@@ -2,8 +2,8 @@
 use Prim.Native.Nat.{_-_}
 use mathlib.Core.Path.{_≡_, refl}
 use lib.ListN.{length}
-use Rattle.letters.proofs.Laid.{put-count}
-use Rattle.sayings.proofs.Run.{goes-on}
+use Rattle.text_rules.proofs.Laid.{put-count}
+use Rattle.console_rules.proofs.Run.{goes-on}
 use borrow.Author.Needs.{needs}
 use Rattle.console.proofs.main.Statement.{statement}
 use Rattle.console.proofs.main.Tie as tie

@@ -2,7 +2,7 @@
 use Prim.Native.Nat.{_≤_}
 use native.Mathlib.Omega.{arith}
 use lib.ListN.{length, length-take}
-use Rattle.transcripts.proofs.Runs.{left}
+use Rattle.stream_rules.proofs.Runs.{left}
 use Rattle.stream.proofs.Shown.{falls-after, shown-count}
 use borrow.Author.Needs.{needs}
 use Rattle.jerungkal.proofs.main.Statement.{statement}

@@ -1,5 +1,5 @@
 -- `eight_bits` gathers the eight bits of the five hundreds in three groups.
-use Rattle.altitude_code.proofs.Reckoned.{eight-is, eight-lt}
+use Rattle.altitude_rules.proofs.Reckoned.{eight-is, eight-lt}
 use borrow.Author.Needs.{needs}
 use Rattle.altitude.proofs.code.eight_bits.Statement.{statement}
 use Rattle.altitude.proofs.code.eight_bits.Tie as tie

@@ -1,6 +1,6 @@
 -- `eleven_bits` gathers the eleven bits besides M and Q.
 use native.Mathlib.Omega.{arith}
-use Rattle.altitude_code.proofs.Reckoned.{eleven-is}
+use Rattle.altitude_rules.proofs.Reckoned.{eleven-is}
 use borrow.Author.Needs.{needs}
 use Rattle.altitude.proofs.code.eleven_bits.Statement.{statement}
 use Rattle.altitude.proofs.code.eleven_bits.Tie as tie

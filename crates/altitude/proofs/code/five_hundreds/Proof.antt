@@ -1,6 +1,6 @@
 -- `five_hundreds` is the Gray value of the eight bits.
 use mathlib.Core.Path.{ap, _∙_}
-use Rattle.altitude_code.specs.Code.{fiveHundreds, grayValue}
+use Rattle.altitude_rules.specs.Code.{fiveHundreds, grayValue}
 use borrow.Author.Needs.{needs}
 use Rattle.altitude.proofs.code.five_hundreds.Statement.{statement}
 use Rattle.altitude.proofs.code.five_hundreds.Tie as tie

@@ -1,5 +1,5 @@
 -- `from_gray` undoes the Gray code of eight bits by three folds.
-use Rattle.altitude_code.proofs.Reckoned.{gray-is, gray-lt}
+use Rattle.altitude_rules.proofs.Reckoned.{gray-is, gray-lt}
 use Rattle.altitude.proofs.code.from_gray.Statement.{statement}
 use Rattle.altitude.proofs.code.from_gray.Tie as tie
 

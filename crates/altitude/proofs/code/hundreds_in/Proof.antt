@@ -3,7 +3,7 @@ use Prim.Native.Nat.{_%_}
 use native.Mathlib.Omega.{arith}
 use borrow.Author.Needs.{needs}
 use borrow.Author.Tests.{eq-eqb, ne-eqb}
-use Rattle.altitude_code.specs.Code.{hundreds}
+use Rattle.altitude_rules.specs.Code.{hundreds}
 use Rattle.altitude.proofs.code.hundreds_in.Statement.{statement}
 use Rattle.altitude.proofs.code.hundreds_in.Tie as tie
 

@@ -1,5 +1,5 @@
 -- `pattern` reads the table at C1 C2 C4, which holds the definition's patterns.
-use Rattle.altitude_code.proofs.Reckoned.{group-is, group-le}
+use Rattle.altitude_rules.proofs.Reckoned.{group-is, group-le}
 use borrow.Author.Needs.{needs}
 use Rattle.altitude.proofs.code.pattern.Statement.{statement}
 use Rattle.altitude.proofs.code.pattern.Tie as tie

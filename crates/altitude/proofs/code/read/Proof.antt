@@ -5,9 +5,9 @@ use mathlib.Core.Path.{_≡_, sym, ap, _∙_}
 use lib.IntN.{subℕ}
 use borrow.Author.Needs.{needs}
 use Rattle.lists.proofs.Signed.{minus-kept}
-use Rattle.altitude_code.specs.Code.{M, Q, group, hundreds, fiveHundreds, feetBy25, feetBy100}
-use Rattle.altitude_code.specs.declared.code.Altitude.the-variants.{Feet}
-use Rattle.altitude_code.proofs.Answers.{says-range, says-none, says-metric, says-by25, says-illegal, says-by100, altitude-told}
+use Rattle.altitude_rules.specs.Code.{M, Q, group, hundreds, fiveHundreds, feetBy25, feetBy100}
+use Rattle.altitude_rules.specs.declared.code.Altitude.the-variants.{Feet}
+use Rattle.altitude_rules.proofs.Answers.{says-range, says-none, says-metric, says-by25, says-illegal, says-by100, altitude-told}
 use Rattle.altitude.proofs.code.read.Statement.{statement}
 use Rattle.altitude.proofs.code.read.Tie as tie
 

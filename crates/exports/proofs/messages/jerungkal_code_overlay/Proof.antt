@@ -1,5 +1,4 @@
 -- `exports::jerungkal_code_overlay` meets its contract: the answer, packed.
--- Assumes nothing.
 use mathlib.Core.Path.{ap, _∙_}
 use borrow.Author.Needs.{needs}
 use Rattle.exports.specs.Packed.{packed}

@@ -1,10 +1,9 @@
 -- `exports::jerungkal_correct` meets its contract: the outcome, its number and flips packed.
--- Assumes nothing.
 use mathlib.Core.Path.{ap₂, _∙_}
 use Prim.Native.Nat.{ℕ}
 use mathlib.Core.List.{List}
 use borrow.Author.Needs.{needs}
-use Rattle.remainders.specs.Answers.{Outcome}
+use Rattle.parity_rules.specs.Answers.{Outcome}
 use Rattle.exports.proofs.messages.jerungkal_correct.Statement.{statement}
 use Rattle.exports.proofs.messages.jerungkal_correct.Tie as tie
 

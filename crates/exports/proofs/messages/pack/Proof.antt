@@ -1,5 +1,4 @@
 -- `exports::pack` meets its contract: case by case.
--- Assumes nothing.
 use native.Mathlib.Omega.{arith}
 use borrow.Author.Needs.{needs}
 use Rattle.exports.proofs.messages.pack.Statement.{statement}

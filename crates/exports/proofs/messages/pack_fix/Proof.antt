@@ -1,5 +1,4 @@
 -- `exports::pack_fix` meets its contract: case by case.
--- Assumes nothing.
 use mathlib.Core.Path.{refl}
 use native.Mathlib.Omega.{arith}
 use borrow.Author.Needs.{needs}

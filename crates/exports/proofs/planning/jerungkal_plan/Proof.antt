@@ -1,8 +1,8 @@
 -- `jerungkal_plan` is the plan of `make_plan` as rows of numbers.
 use mathlib.Core.Path.{ap, _∙_}
 use lib.ListN.{replicate}
-use Rattle.plans.specs.declared.entry.Entry.{Entry}
-use Rattle.plans.specs.Plan.{plan, asksOf, planned}
+use Rattle.planner_rules.specs.declared.entry.Entry.{Entry}
+use Rattle.planner_rules.specs.Plan.{plan, asksOf, inSlots}
 use Rattle.exports.specs.Planner.{rowsOf}
 use borrow.Author.Needs.{needs}
 use Rattle.exports.proofs.planning.jerungkal_plan.Statement.{statement}
@@ -23,7 +23,7 @@ numbers-of-requires c κs = search needs
 returns : tie.Need-returns
 returns c = let m = c .before .before .before in
     let s = m .before .before .before .before in
-    let e = ap (λ (x : Entry). planned (plan (s .args .j .setup) (asksOf (s .args .j .asks))) (replicate 128 x) (s .args .j .asks .list)) (m .before .no-entry .ensures) in
+    let e = ap (λ (x : Entry). inSlots (plan (s .args .j .setup) (asksOf (s .args .j .asks))) (replicate 128 x) (s .args .j .asks .list)) (m .before .no-entry .ensures) in
     rw (c .before .starts-of .ensures, c .numbers-of .ensures) (ap rowsOf (m .make-plan .ensures ∙ e))
 
 pub jerungkal-plan-spec : {M : Type 1} → statement M

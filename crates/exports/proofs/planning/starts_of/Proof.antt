@@ -5,7 +5,7 @@ use mathlib.Core.Path.{_≡_, refl}
 use lib.ListN.{length}
 use Rattle.lists.proofs.Front.{length-mapped}
 use Rattle.lists.proofs.Copied.{Copied, copied-none, copied-more, copied-all}
-use Rattle.plans.specs.declared.entry.Entry.{Entry}
+use Rattle.planner_rules.specs.declared.entry.Entry.{Entry}
 use borrow.Author.Needs.{needs}
 use Rattle.exports.proofs.planning.starts_of.Statement.{statement}
 use Rattle.exports.proofs.planning.starts_of.Tie as tie

@@ -1,6 +1,6 @@
 -- `feet_line` takes the line at a place and goes on behind its newline.
-use Rattle.letters.proofs.Run.{took}
-use Rattle.feet_lines.specs.Lines.{lineText}
+use Rattle.text_rules.proofs.Run.{took}
+use Rattle.console_rules.specs.FeetLines.{lineText}
 use borrow.Author.Needs.{needs}
 use Rattle.feet_lines.proofs.lines.feet_line.Statement.{statement}
 use Rattle.feet_lines.proofs.lines.feet_line.Tie as tie

@@ -1,5 +1,5 @@
 -- `put_answer` lays the answer's number and its value.
-use Rattle.altitude_code.proofs.Answers.{altitude-is}
+use Rattle.altitude_rules.proofs.Answers.{altitude-is}
 use Rattle.feet_lines.proofs.Texts.{answer-put}
 use borrow.Author.Needs.{needs}
 use Rattle.feet_lines.proofs.lines.put_answer.Statement.{statement}

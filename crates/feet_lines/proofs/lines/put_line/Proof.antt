@@ -1,8 +1,8 @@
 -- `put_line` lays what a line prints: nothing, its one code, or "- 2".
 use mathlib.Core.Path.{_≡_, sym, ap, _∙_}
 use native.Mathlib.Omega.{arith}
-use Rattle.letters.proofs.Laid.{put-none}
-use Rattle.feet_lines.specs.Lines.{numberText, lineText}
+use Rattle.text_rules.proofs.Laid.{put-none}
+use Rattle.console_rules.specs.FeetLines.{numberText, lineText}
 use Rattle.feet_lines.proofs.Texts.{no-word, two-words, one-word}
 use borrow.Author.Needs.{needs}
 use Rattle.feet_lines.proofs.lines.put_line.Statement.{statement}

@@ -2,7 +2,7 @@
 use mir.Syntax.{w32}
 use mir.Val.{SFits}
 use mir.ValLaws.{toZ-ofZ}
-use Rattle.feet_lines.specs.Lines.{valueText}
+use Rattle.console_rules.specs.FeetLines.{valueText}
 use Rattle.feet_lines.proofs.Texts.{feet-put}
 use borrow.Author.Needs.{needs, sfits-of}
 use Rattle.feet_lines.proofs.lines.put_value.Statement.{statement}

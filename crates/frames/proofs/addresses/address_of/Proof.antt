@@ -1,11 +1,10 @@
 -- `frames::addresses::address_of` meets its contract: the range, then the quotient.
--- Assumes nothing.
 use mathlib.Core.Path.{ap}
 use Prim.Native.Nat.{ℕ}
 use borrow.Author.Tests.{le-ltb, lt-ltb}
-use Rattle.fields.specs.Answers.{addressSaid}
-use Rattle.fields.specs.Addresses.{addressOf, addressTold}
-use Rattle.fields.specs.declared.answers.Address.the-variants.{Is}
+use Rattle.frames_rules.specs.Answers.{addressSaid}
+use Rattle.frames_rules.specs.Addresses.{addressOf, addressTold}
+use Rattle.frames_rules.specs.declared.answers.Address.the-variants.{Is}
 use borrow.Author.Needs.{needs}
 use Rattle.frames.proofs.addresses.address_of.Statement.{statement}
 use Rattle.frames.proofs.addresses.address_of.Tie as tie

@@ -1,11 +1,10 @@
 -- `frames::addresses::quotient` meets its contract. The invariant: the coefficients so far, and those of what is left, spell the quotient.
--- Assumes nothing.
 use mathlib.Core.Path.{_≡_, refl, _∙_}
 use Prim.Native.Nat.{_-_, _^_, _<_, _≤_}
 use native.Mathlib.Omega.{arith}
 use Rattle.lists.specs.Lists.{spelled}
-use Rattle.fields.specs.Addresses.{quotientBits, quotientOf}
-use Rattle.fields.proofs.Quotient.{step-lt, quotient-turn, quotient-grows, quotient-fits}
+use Rattle.frames_rules.specs.Addresses.{quotientBits, quotientOf}
+use Rattle.frames_rules.proofs.Quotient.{step-lt, quotient-turn, quotient-grows, quotient-fits}
 use Rattle.frames.proofs.addresses.quotient.Statement.{statement}
 use Rattle.frames.proofs.addresses.quotient.Tie as tie
 

@@ -1,13 +1,12 @@
 -- `frames::builders::all_call` meets its contract: each refusal by its test, then the frame.
--- Assumes nothing.
 use mathlib.Core.Path.{_≡_, sym, ap, _∙_}
 use mathlib.Core.Bool.{true}
 use native.Mathlib.Omega.{arith}
 use borrow.Author.Tests.{eq-eqb, ne-eqb, not-true, not-false}
-use Rattle.remainders.specs.Messages.{whole}
-use Rattle.fields.specs.Answers.{written}
-use Rattle.fields.specs.Building.{allCallRanged, allCalling}
-use Rattle.fields.proofs.Ranges.{all-call-in, all-call-is}
+use Rattle.parity_rules.specs.Messages.{whole}
+use Rattle.frames_rules.specs.Answers.{holding}
+use Rattle.frames_rules.specs.Building.{allCallRanged, allCalling}
+use Rattle.frames_rules.proofs.Ranges.{all-call-in, all-call-is}
 use borrow.Author.Needs.{needs}
 use Rattle.frames.proofs.builders.all_call.Statement.{statement}
 use Rattle.frames.proofs.builders.all_call.Tie as tie
@@ -48,7 +47,7 @@ returns-3 c =
     let e = c .before .before .before .before .before .before in
     let a = start e .args in
     simp (eq-eqb _ _ (c .before .before .before .before .before .before .before .before .if1 .left), ranged e)
-    (ap written (all-call-is _ (a .pr) (a .ic) (a .cl) _ _ _ (c .before .before .write .ensures) (c .before .before .before .before .before .before .before .before .if1 .left) (c .before .before .before .before .before .all-call-head .ensures) (c .before .before .before .before .overlay-of .ensures)))
+    (ap holding (all-call-is _ (a .pr) (a .ic) (a .cl) _ _ _ (c .before .before .write .ensures) (c .before .before .before .before .before .before .before .before .if1 .left) (c .before .before .before .before .before .all-call-head .ensures) (c .before .before .before .before .overlay-of .ensures)))
 
 pub all-call-spec : {M : Type 1} → statement M
 all-call-spec =

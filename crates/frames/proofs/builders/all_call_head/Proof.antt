@@ -1,7 +1,6 @@
 -- `frames::builders::all_call_head` meets its contract: each value at its field.
--- Assumes nothing.
 use native.Mathlib.Omega.{arith}
-use Rattle.fields.specs.Fields.{allCallHead}
+use Rattle.frames_rules.specs.Fields.{allCallHead}
 use borrow.Author.Needs.{needs}
 use Rattle.frames.proofs.builders.all_call_head.Statement.{statement}
 use Rattle.frames.proofs.builders.all_call_head.Tie as tie

@@ -1,7 +1,6 @@
 -- `frames::builders::all_call_ranged` meets its contract: each range in turn.
--- Assumes nothing.
 use borrow.Author.Tests.{le-leb, lt-leb}
-use Rattle.fields.specs.Building.{allCallRanged}
+use Rattle.frames_rules.specs.Building.{allCallRanged}
 use Rattle.frames.proofs.builders.all_call_ranged.Statement.{statement}
 use Rattle.frames.proofs.builders.all_call_ranged.Tie as tie
 

@@ -1,5 +1,4 @@
 -- `frames::builders::an_address` meets its contract: both ends.
--- Assumes nothing.
 use native.Mathlib.Omega.{arith}
 use borrow.Author.Tests.{le-leb, lt-leb}
 use Rattle.frames.proofs.builders.an_address.Statement.{statement}

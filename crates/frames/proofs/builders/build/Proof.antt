@@ -1,17 +1,16 @@
 -- `frames::builders::build` meets its contract: each refusal by its test, then the frame.
--- Assumes nothing.
 use mathlib.Core.Path.{_≡_, sym, ap, _∙_}
 use mathlib.Core.Bool.{true, false}
 use Prim.Native.Nat.{ℕ}
 use native.Mathlib.Omega.{arith}
 use lib.ListN.{length}
 use borrow.Author.Tests.{eq-eqb, ne-eqb, not-true, not-false}
-use Rattle.remainders.specs.Messages.{whole}
-use Rattle.fields.specs.Answers.{written}
-use Rattle.fields.specs.Bytes.{numberOf}
-use Rattle.fields.specs.Formats.{surveillance, lengthOf}
-use Rattle.fields.specs.Building.{selectiveRanged, building}
-use Rattle.fields.proofs.Ranges.{InSelective, surveillance-lt, whole-format, selective-in, selective-is}
+use Rattle.parity_rules.specs.Messages.{whole}
+use Rattle.frames_rules.specs.Answers.{holding}
+use Rattle.frames_rules.specs.Bytes.{numberOfBytes}
+use Rattle.frames_rules.specs.Formats.{surveillance, lengthOf}
+use Rattle.frames_rules.specs.Building.{selectiveRanged, building}
+use Rattle.frames_rules.proofs.Ranges.{InSelective, surveillance-lt, whole-format, selective-in, selective-is}
 use borrow.Author.Needs.{needs}
 use Rattle.frames.proofs.builders.build.Statement.{statement}
 use Rattle.frames.proofs.builders.build.Tie as tie
@@ -60,7 +59,7 @@ returns-4 : tie.Need-returns-4
 unfolding building
 returns-4 c =
     let a = c .before .before .before .before .before .before .before .before .before .before .args in
-    let e : selectiveRanged (a .uf) (a .pc) (a .rr) (a .di) (a .sd) (numberOf (a .ma .now)) (a .address) ≡ false =
+    let e : selectiveRanged (a .uf) (a .pc) (a .rr) (a .di) (a .sd) (numberOfBytes (a .ma .now)) (a .address) ≡ false =
     ap (λ (n : ℕ). selectiveRanged (a .uf) (a .pc) (a .rr) (a .di) (a .sd) n (a .address)) (sym (c .before .before .number-of .ensures .0)) ∙ sym (c .before .selective-ranged .ensures) ∙ not-true _ (c .if4 .taken) in
     rw (sym (c .before .before .before .before .before .before .before .surveillance .ensures) ∙ not-false _ (c .before .before .before .before .before .before .if1 .left), eq-eqb _ _ (c .before .before .before .before .if2 .left ∙ c .before .before .before .before .before .length-of .ensures), eq-eqb _ _ (c .before .before .before .if3 .left), e)
 
@@ -82,7 +81,7 @@ returns-5 c =
     let e = c .before .before .before .before .before .before in
     let a = start e .args in
     simp (format e, eq-eqb _ _ (sized e), eq-eqb _ _ (c .before .before .before .before .before .before .before .before .before .if3 .left), ← c .before .before .before .before .before .before .before .before .number-of .ensures .0, ranged e)
-    (ap written (selective-is _ (a .uf) (a .pc) (a .rr) (a .di) (a .sd) _ (a .address) _ _ _ (c .before .before .write .ensures) (sized e) (c .before .before .before .before .before .selective-head .ensures) (c .before .before .before .before .overlay-of .ensures)))
+    (ap holding (selective-is _ (a .uf) (a .pc) (a .rr) (a .di) (a .sd) _ (a .address) _ _ _ (c .before .before .write .ensures) (sized e) (c .before .before .before .before .before .selective-head .ensures) (c .before .before .before .before .overlay-of .ensures)))
 
 pub build-spec : {M : Type 1} → statement M
 build-spec =

@@ -1,7 +1,6 @@
 -- `frames::builders::selective_head` meets its contract: each value at its field.
--- Assumes nothing.
 use native.Mathlib.Omega.{arith}
-use Rattle.fields.specs.Fields.{selectiveHead}
+use Rattle.frames_rules.specs.Fields.{selectiveHead}
 use borrow.Author.Needs.{needs}
 use Rattle.frames.proofs.builders.selective_head.Statement.{statement}
 use Rattle.frames.proofs.builders.selective_head.Tie as tie

@@ -1,7 +1,7 @@
 -- `frames::builders::selective_ranged` meets its contract: each range in turn.
 use mathlib.Core.Path.{sym, _∙_}
 use borrow.Author.Tests.{le-leb, lt-leb, eq-eqb, ne-eqb, not-true, not-false}
-use Rattle.fields.specs.Building.{selectiveRanged}
+use Rattle.frames_rules.specs.Building.{selectiveRanged}
 use borrow.Author.Needs.{needs}
 use Rattle.frames.proofs.builders.selective_ranged.Statement.{statement}
 use Rattle.frames.proofs.builders.selective_ranged.Tie as tie

@@ -1,12 +1,11 @@
 -- `frames::bytes::number_of` meets its contract. The invariant: the number so far, followed by the bytes left, is the number.
--- Assumes nothing.
 use mathlib.Core.Path.{_≡_, refl, _∙_}
 use mathlib.Core.List.{[]}
 use Prim.Native.Nat.{_-_, _*_, _^_, _<_, _≤_}
 use native.Mathlib.Omega.{arith}
 use lib.ListN.{length, drop, drop-of-length-le}
-use Rattle.fields.specs.Bytes.{followed}
-use Rattle.fields.proofs.Numbers.{byte-on, turn, room}
+use Rattle.frames_rules.specs.Bytes.{followed}
+use Rattle.frames_rules.proofs.Numbers.{byte-on, turn, room}
 use Rattle.frames.proofs.bytes.number_of.Statement.{statement}
 use Rattle.frames.proofs.bytes.number_of.Tie as tie
 

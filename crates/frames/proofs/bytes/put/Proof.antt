@@ -1,12 +1,11 @@
 -- `frames::bytes::put` meets its contract. The invariant: the bytes left, stored from here on, make what is to be.
--- Assumes nothing.
 use mathlib.Core.Path.{_≡_, refl, _∙_}
 use Prim.Native.Nat.{_+_, _-_, _≤_}
 use native.Mathlib.Omega.{arith}
 use lib.ListN.{length, length-set}
 use lib.Seq.{sets}
-use Rattle.fields.specs.Bytes.{bytesOf}
-use Rattle.fields.proofs.Numbers.{put-turn}
+use Rattle.frames_rules.specs.Bytes.{bytesOf}
+use Rattle.frames_rules.proofs.Numbers.{put-turn}
 use borrow.Author.Needs.{needs}
 use Rattle.frames.proofs.bytes.put.Statement.{statement}
 use Rattle.frames.proofs.bytes.put.Tie as tie

@@ -1,12 +1,11 @@
 -- `frames::codes::code_for` meets its contract: IC, then CL, then SI 0.
--- Assumes nothing.
 use mathlib.Core.Path.{sym, _∙_}
 use Prim.Native.Nat.{_≤_}
 use native.Mathlib.Omega.{arith}
 use lib.Dec.{leb}
 use borrow.Author.Tests.{leb-true, le-leb, lt-leb, eq-eqb, ne-eqb, not-true, not-false}
 use Rattle.lists.proofs.Tests.{and-true}
-use Rattle.fields.specs.Shared.{codeFor, codeTold}
+use Rattle.frames_rules.specs.Shared.{codeFor, codeTold}
 use borrow.Author.Needs.{needs}
 use Rattle.frames.proofs.codes.code_for.Statement.{statement}
 use Rattle.frames.proofs.codes.code_for.Tie as tie

@@ -1,17 +1,16 @@
 -- `frames::codes::code_of` meets its contract: each refusal by its test, then whose code it is.
--- Assumes nothing.
 use mathlib.Core.Path.{_≡_, sym, ap, _∙_}
 use mathlib.Core.Bool.{true}
 use Prim.Native.Nat.{ℕ}
 use native.Mathlib.Omega.{arith}
 use lib.ListN.{length}
 use borrow.Author.Tests.{not-true, not-false}
-use Rattle.remainders.specs.Messages.{whole}
-use Rattle.fields.specs.Answers.{done}
-use Rattle.fields.specs.Fields.{valueAt, atDF}
-use Rattle.fields.specs.Codes.{stationRanged, whose}
-use Rattle.fields.proofs.Ranges.{station-in}
-use Rattle.fields.proofs.Judging.{code-length, code-range, code-long, code-format, code-whose}
+use Rattle.parity_rules.specs.Messages.{whole}
+use Rattle.frames_rules.specs.Answers.{done}
+use Rattle.frames_rules.specs.Fields.{valueAt, atDF}
+use Rattle.frames_rules.specs.Codes.{stationRanged, whose}
+use Rattle.frames_rules.proofs.Ranges.{station-in}
+use Rattle.frames_rules.proofs.Judging.{code-length, code-range, code-long, code-format, code-whose}
 use borrow.Author.Needs.{needs}
 use Rattle.frames.proofs.codes.code_of.Statement.{statement}
 use Rattle.frames.proofs.codes.code_of.Tie as tie

@@ -1,5 +1,4 @@
 -- `frames::codes::of_si` meets its contract: both ends.
--- Assumes nothing.
 use native.Mathlib.Omega.{arith}
 use borrow.Author.Tests.{le-leb, lt-leb}
 use Rattle.frames.proofs.codes.of_si.Statement.{statement}

@@ -1,5 +1,4 @@
 -- `frames::codes::station_ranged` meets its contract: each range in turn.
--- Assumes nothing.
 use borrow.Author.Tests.{le-leb, lt-leb}
 use Rattle.frames.proofs.codes.station_ranged.Statement.{statement}
 use Rattle.frames.proofs.codes.station_ranged.Tie as tie

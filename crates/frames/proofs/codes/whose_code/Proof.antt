@@ -1,9 +1,8 @@
 -- `frames::codes::whose_code` meets its contract: own, then the matching II test by test.
--- Assumes nothing.
 use mathlib.Core.Path.{sym, _∙_}
 use native.Mathlib.Nat.{zero-add}
 use borrow.Author.Tests.{eq-eqb, ne-eqb, not-true, not-false}
-use Rattle.fields.specs.Codes.{whose}
+use Rattle.frames_rules.specs.Codes.{whose}
 use borrow.Author.Needs.{needs}
 use Rattle.frames.proofs.codes.whose_code.Statement.{statement}
 use Rattle.frames.proofs.codes.whose_code.Tie as tie

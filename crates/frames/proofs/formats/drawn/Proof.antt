@@ -1,12 +1,11 @@
 -- `frames::formats::drawn` meets its contract: UF and RR judged, then the long form by RR.
--- Assumes nothing.
 use mathlib.Core.Path.{sym, ap, _∙_}
 use Prim.Native.Nat.{ℕ, _+_}
 use native.Mathlib.Omega.{arith}
 use borrow.Author.Tests.{le-leb, lt-leb, not-true, not-false}
-use Rattle.fields.specs.Answers.{drawsSaid}
-use Rattle.fields.specs.Shared.{drawn, drawnTold}
-use Rattle.fields.specs.declared.answers.Draws.the-variants.{Format}
+use Rattle.frames_rules.specs.Answers.{drawsSaid}
+use Rattle.frames_rules.specs.Shared.{drawn, drawnTold}
+use Rattle.frames_rules.specs.declared.answers.Draws.the-variants.{Format}
 use borrow.Author.Needs.{needs}
 use Rattle.frames.proofs.formats.drawn.Statement.{statement}
 use Rattle.frames.proofs.formats.drawn.Tie as tie

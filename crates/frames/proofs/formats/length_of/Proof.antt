@@ -1,5 +1,4 @@
 -- `frames::formats::length_of` meets its contract, by the long formats.
--- Assumes nothing.
 use mathlib.Core.Path.{sym, _∙_}
 use borrow.Author.Needs.{needs}
 use Rattle.frames.proofs.formats.length_of.Statement.{statement}

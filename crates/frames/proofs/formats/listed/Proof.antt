@@ -1,5 +1,4 @@
 -- `frames::formats::listed` meets its contract: the length, then the formats.
--- Assumes nothing.
 use borrow.Author.Tests.{eq-eqb, ne-eqb}
 use borrow.Author.Needs.{needs}
 use Rattle.frames.proofs.formats.listed.Statement.{statement}

@@ -1,5 +1,4 @@
 -- `frames::formats::long_format` meets its contract: the two numbers.
--- Assumes nothing.
 use borrow.Author.Tests.{eq-eqb, ne-eqb}
 use Rattle.frames.proofs.formats.long_format.Statement.{statement}
 use Rattle.frames.proofs.formats.long_format.Tie as tie

@@ -1,5 +1,4 @@
 -- `frames::formats::short_reply` meets its contract: AC for UF 4 and 20, else ID.
--- Assumes nothing.
 use native.Mathlib.Omega.{arith}
 use borrow.Author.Tests.{eq-eqb, ne-eqb}
 use Rattle.frames.proofs.formats.short_reply.Statement.{statement}

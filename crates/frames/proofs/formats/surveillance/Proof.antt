@@ -1,5 +1,4 @@
 -- `frames::formats::surveillance` meets its contract: the two short formats, then the long ones.
--- Assumes nothing.
 use borrow.Author.Tests.{eq-eqb, ne-eqb}
 use borrow.Author.Needs.{needs}
 use Rattle.frames.proofs.formats.surveillance.Statement.{statement}

@@ -1,8 +1,7 @@
 -- `frames::frame::code_overlay` meets its contract: the case of a number is the only one that comes.
--- Assumes nothing.
 use native.Mathlib.Omega.{arith}
-use Rattle.remainders.proofs.Laws.{code-is}
-use Rattle.fields.proofs.Told.{the-value, no-length, no-range}
+use Rattle.parity_rules.proofs.Laws.{code-is}
+use Rattle.frames_rules.proofs.Told.{the-value, no-length, no-range}
 use borrow.Author.Needs.{needs}
 use Rattle.frames.proofs.frame.code_overlay.Statement.{statement}
 use Rattle.frames.proofs.frame.code_overlay.Tie as tie

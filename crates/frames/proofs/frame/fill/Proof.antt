@@ -1,13 +1,12 @@
 -- `frames::frame::fill` meets its contract: the first four bytes, then the seven of a long frame.
--- Assumes nothing.
 use mathlib.Core.Path.{sym, ap, _∙_}
 use mathlib.Core.List.{List}
 use Prim.Native.Nat.{ℕ}
 use native.Mathlib.Omega.{arith}
 use lib.ListN.{length}
 use lib.Seq.{sets, length-sets}
-use Rattle.fields.specs.Bytes.{bytesOf}
-use Rattle.fields.proofs.Laying.{whole-least, fill-short, fill-long}
+use Rattle.frames_rules.specs.Bytes.{bytesOf}
+use Rattle.frames_rules.proofs.Laying.{whole-least, fill-short, fill-long}
 use borrow.Author.Needs.{needs}
 use Rattle.frames.proofs.frame.fill.Statement.{statement}
 use Rattle.frames.proofs.frame.fill.Tie as tie

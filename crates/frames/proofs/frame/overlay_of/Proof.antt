@@ -1,7 +1,6 @@
 -- `frames::frame::overlay_of` meets its contract: the case of a number is the only one that comes.
--- Assumes nothing.
-use Rattle.remainders.proofs.Laws.{uplink-is}
-use Rattle.fields.proofs.Told.{the-value, no-length, no-range}
+use Rattle.parity_rules.proofs.Laws.{uplink-is}
+use Rattle.frames_rules.proofs.Told.{the-value, no-length, no-range}
 use borrow.Author.Needs.{needs}
 use Rattle.frames.proofs.frame.overlay_of.Statement.{statement}
 use Rattle.frames.proofs.frame.overlay_of.Tie as tie

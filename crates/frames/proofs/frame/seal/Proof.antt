@@ -1,14 +1,13 @@
 -- `frames::frame::seal` meets its contract: three zeros, then the remainder with the overlay over it.
--- Assumes nothing.
 use mathlib.Core.Path.{ap, _∙_}
 use Prim.Native.Nat.{_-_}
 use native.Mathlib.Omega.{arith}
 use lib.Bits.{xor-lt}
 use lib.ListN.{length}
 use lib.Seq.{length-sets}
-use Rattle.remainders.specs.Messages.{whole}
-use Rattle.fields.specs.Bytes.{bytesOf}
-use Rattle.fields.proofs.Laying.{whole-least, seal-law}
+use Rattle.parity_rules.specs.Messages.{whole}
+use Rattle.frames_rules.specs.Bytes.{bytesOf}
+use Rattle.frames_rules.proofs.Laying.{whole-least, seal-law}
 use borrow.Author.Needs.{needs}
 use Rattle.frames.proofs.frame.seal.Statement.{statement}
 use Rattle.frames.proofs.frame.seal.Tie as tie

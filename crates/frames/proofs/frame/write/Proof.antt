@@ -1,8 +1,7 @@
 -- `frames::frame::write` meets its contract: the fields, then the parity.
--- Assumes nothing.
 use mathlib.Core.Path.{ap, _∙_}
-use Rattle.remainders.specs.Messages.{whole}
-use Rattle.fields.proofs.Laying.{filled-length, write-law}
+use Rattle.parity_rules.specs.Messages.{whole}
+use Rattle.frames_rules.proofs.Laying.{filled-length, write-law}
 use borrow.Author.Needs.{needs}
 use Rattle.frames.proofs.frame.write.Statement.{statement}
 use Rattle.frames.proofs.frame.write.Tie as tie

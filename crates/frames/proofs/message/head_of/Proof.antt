@@ -1,11 +1,10 @@
 -- `frames::message::head_of` meets its contract: the number of the first four bytes.
--- Assumes nothing.
 use mathlib.Core.Path.{_≡_}
 use native.Mathlib.Omega.{arith}
 use lib.ListN.{length, take}
 use lib.Seq.{length-take-le}
-use Rattle.fields.proofs.Laying.{whole-least}
-use Rattle.fields.specs.Fields.{headOf}
+use Rattle.frames_rules.proofs.Laying.{whole-least}
+use Rattle.frames_rules.specs.Fields.{headOf}
 use borrow.Author.Needs.{needs}
 use Rattle.frames.proofs.message.head_of.Statement.{statement}
 use Rattle.frames.proofs.message.head_of.Tie as tie

@@ -1,7 +1,6 @@
 -- `frames::message::mid_of` meets its contract: zero, or the number of the seven bytes.
--- Assumes nothing.
 use borrow.Author.Tests.{eq-eqb, ne-eqb}
-use Rattle.fields.specs.Fields.{midOf}
+use Rattle.frames_rules.specs.Fields.{midOf}
 use borrow.Author.Needs.{needs}
 use Rattle.frames.proofs.message.mid_of.Statement.{statement}
 use Rattle.frames.proofs.message.mid_of.Tie as tie

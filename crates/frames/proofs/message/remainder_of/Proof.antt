@@ -1,8 +1,7 @@
 -- `frames::message::remainder_of` meets its contract: the case of a number is the only one that comes.
--- Assumes nothing.
 use native.Mathlib.Omega.{arith}
-use Rattle.remainders.proofs.Laws.{remainder-is, remainder-lt}
-use Rattle.fields.proofs.Told.{the-value, no-length, no-range}
+use Rattle.parity_rules.proofs.Laws.{remainder-is, remainder-lt}
+use Rattle.frames_rules.proofs.Told.{the-value, no-length, no-range}
 use borrow.Author.Needs.{needs}
 use Rattle.frames.proofs.message.remainder_of.Statement.{statement}
 use Rattle.frames.proofs.message.remainder_of.Tie as tie

@@ -1,5 +1,4 @@
 -- `frames::message::whole` meets its contract: the two lengths.
--- Assumes nothing.
 use borrow.Author.Tests.{eq-eqb, ne-eqb}
 use Rattle.frames.proofs.message.whole.Statement.{statement}
 use Rattle.frames.proofs.message.whole.Tie as tie

@@ -1,5 +1,4 @@
 -- `frames::part::mb_part` meets its contract: the length decides.
--- Assumes nothing.
 use borrow.Author.Tests.{eq-eqb, ne-eqb}
 use borrow.Author.Needs.{needs}
 use Rattle.frames.proofs.part.mb_part.Statement.{statement}

@@ -1,7 +1,6 @@
 -- `frames::read::all_call` meets its contract: each value from its field.
--- Assumes nothing.
 use mathlib.Core.Path.{refl}
-use Rattle.fields.specs.Reading.{allCallRead}
+use Rattle.frames_rules.specs.Reading.{allCallRead}
 use borrow.Author.Needs.{needs}
 use Rattle.frames.proofs.read.all_call.Statement.{statement}
 use Rattle.frames.proofs.read.all_call.Tie as tie

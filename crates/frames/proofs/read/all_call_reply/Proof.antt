@@ -1,9 +1,8 @@
 -- `frames::read::all_call_reply` meets its contract: each value from its field.
--- Assumes nothing.
 use mathlib.Core.Path.{_≡_}
 use Prim.Native.Nat.{_/_}
 use native.Mathlib.Omega.{arith}
-use Rattle.fields.specs.Reading.{allCallReplyRead}
+use Rattle.frames_rules.specs.Reading.{allCallReplyRead}
 use borrow.Author.Needs.{needs}
 use Rattle.frames.proofs.read.all_call_reply.Statement.{statement}
 use Rattle.frames.proofs.read.all_call_reply.Tie as tie

@@ -1,15 +1,14 @@
 -- `frames::read::read_down` meets its contract: each refusal by its test, then the fields.
--- Assumes nothing.
 use mathlib.Core.Path.{_≡_, sym, ap, ap₂, _∙_}
 use mathlib.Core.Bool.{true}
 use Prim.Native.Nat.{ℕ}
 use lib.ListN.{length}
 use borrow.Author.Tests.{not-true, not-false}
-use Rattle.remainders.specs.Messages.{whole}
-use Rattle.fields.specs.Fields.{valueAt, atUF}
-use Rattle.fields.specs.Formats.{listed}
-use Rattle.fields.specs.Reading.{formatOf, allCallReplyRead, surveillanceRead}
-use Rattle.fields.proofs.Judging.{reads-length, reads-format, reads-eleven, reads-others, same}
+use Rattle.parity_rules.specs.Messages.{whole}
+use Rattle.frames_rules.specs.Fields.{valueAt, atUF}
+use Rattle.frames_rules.specs.Formats.{listed}
+use Rattle.frames_rules.specs.Reading.{formatOf, allCallReplyRead, surveillanceRead}
+use Rattle.frames_rules.proofs.Judging.{reads-length, reads-format, reads-eleven, reads-others, same}
 use borrow.Author.Needs.{needs}
 use Rattle.frames.proofs.read.read_down.Statement.{statement}
 use Rattle.frames.proofs.read.read_down.Tie as tie

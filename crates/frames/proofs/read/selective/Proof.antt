@@ -1,9 +1,8 @@
 -- `frames::read::selective` meets its contract: each value from its field.
--- Assumes nothing.
 use mathlib.Core.Path.{_≡_}
 use Prim.Native.Nat.{_/_}
 use native.Mathlib.Omega.{arith}
-use Rattle.fields.specs.Reading.{selectiveRead}
+use Rattle.frames_rules.specs.Reading.{selectiveRead}
 use borrow.Author.Needs.{needs}
 use Rattle.frames.proofs.read.selective.Statement.{statement}
 use Rattle.frames.proofs.read.selective.Tie as tie

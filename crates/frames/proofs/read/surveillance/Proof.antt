@@ -1,9 +1,8 @@
 -- `frames::read::surveillance` meets its contract: each value from its field.
--- Assumes nothing.
 use mathlib.Core.Path.{_≡_}
 use Prim.Native.Nat.{_/_}
 use native.Mathlib.Omega.{arith}
-use Rattle.fields.specs.Reading.{surveillanceRead}
+use Rattle.frames_rules.specs.Reading.{surveillanceRead}
 use borrow.Author.Needs.{needs}
 use Rattle.frames.proofs.read.surveillance.Statement.{statement}
 use Rattle.frames.proofs.read.surveillance.Tie as tie

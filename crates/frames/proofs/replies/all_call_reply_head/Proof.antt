@@ -1,7 +1,6 @@
 -- `frames::replies::all_call_reply_head` meets its contract: each value at its field.
--- Assumes nothing.
 use native.Mathlib.Omega.{arith}
-use Rattle.fields.specs.Fields.{allCallReplyHead}
+use Rattle.frames_rules.specs.Fields.{allCallReplyHead}
 use borrow.Author.Needs.{needs}
 use Rattle.frames.proofs.replies.all_call_reply_head.Statement.{statement}
 use Rattle.frames.proofs.replies.all_call_reply_head.Tie as tie

@@ -1,8 +1,7 @@
 -- `frames::replies::all_call_reply_ranged` meets its contract: each range in turn.
--- Assumes nothing.
 use mathlib.Core.Path.{sym, _∙_}
 use borrow.Author.Tests.{le-leb, lt-leb, not-true, not-false}
-use Rattle.fields.specs.Building.{allCallReplyRanged}
+use Rattle.frames_rules.specs.Building.{allCallReplyRanged}
 use borrow.Author.Needs.{needs}
 use Rattle.frames.proofs.replies.all_call_reply_ranged.Statement.{statement}
 use Rattle.frames.proofs.replies.all_call_reply_ranged.Tie as tie

@@ -1,15 +1,14 @@
 -- `frames::replies::reply` meets its contract: each refusal by its test, then the frame.
--- Assumes nothing.
 use mathlib.Core.Path.{_≡_, sym, ap, _∙_}
 use mathlib.Core.Bool.{true}
 use native.Mathlib.Omega.{arith}
 use lib.ListN.{length}
 use borrow.Author.Tests.{eq-eqb, ne-eqb, not-true, not-false}
-use Rattle.remainders.specs.Messages.{whole}
-use Rattle.fields.specs.Answers.{written}
-use Rattle.fields.specs.Formats.{surveillance, lengthOf}
-use Rattle.fields.specs.Building.{replyRanged, replying}
-use Rattle.fields.proofs.Ranges.{InReply, surveillance-lt, whole-format, reply-in, reply-is}
+use Rattle.parity_rules.specs.Messages.{whole}
+use Rattle.frames_rules.specs.Answers.{holding}
+use Rattle.frames_rules.specs.Formats.{surveillance, lengthOf}
+use Rattle.frames_rules.specs.Building.{replyRanged, replying}
+use Rattle.frames_rules.proofs.Ranges.{InReply, surveillance-lt, whole-format, reply-in, reply-is}
 use borrow.Author.Needs.{needs}
 use Rattle.frames.proofs.replies.reply.Statement.{statement}
 use Rattle.frames.proofs.replies.reply.Tie as tie
@@ -66,7 +65,7 @@ returns-4 c =
     let e = c .before .before .before .before .before in
     let a = start e .args in
     simp (format e, eq-eqb _ _ (sized e), ranged e)
-    (ap written (reply-is _ (a .df) (a .fs) (a .dr) (a .um) (a .value) (a .mb) (a .address) _ _ (c .before .before .write .ensures) (sized e) (c .before .before .before .before .reply-head .ensures)))
+    (ap holding (reply-is _ (a .df) (a .fs) (a .dr) (a .um) (a .value) (a .mb) (a .address) _ _ (c .before .before .write .ensures) (sized e) (c .before .before .before .before .reply-head .ensures)))
 
 pub reply-spec : {M : Type 1} → statement M
 reply-spec =

@@ -1,7 +1,6 @@
 -- `frames::replies::reply_head` meets its contract: each value at its field.
--- Assumes nothing.
 use native.Mathlib.Omega.{arith}
-use Rattle.fields.specs.Fields.{replyHead}
+use Rattle.frames_rules.specs.Fields.{replyHead}
 use borrow.Author.Needs.{needs}
 use Rattle.frames.proofs.replies.reply_head.Statement.{statement}
 use Rattle.frames.proofs.replies.reply_head.Tie as tie

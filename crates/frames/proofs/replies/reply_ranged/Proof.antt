@@ -1,8 +1,7 @@
 -- `frames::replies::reply_ranged` meets its contract: each range in turn.
--- Assumes nothing.
 use mathlib.Core.Path.{sym, _∙_}
 use borrow.Author.Tests.{le-leb, lt-leb, eq-eqb, ne-eqb, not-true, not-false}
-use Rattle.fields.specs.Building.{replyRanged}
+use Rattle.frames_rules.specs.Building.{replyRanged}
 use borrow.Author.Needs.{needs}
 use Rattle.frames.proofs.replies.reply_ranged.Statement.{statement}
 use Rattle.frames.proofs.replies.reply_ranged.Tie as tie

@@ -1,7 +1,6 @@
 -- `model::all_calls::answer_all_call` meets its contract: by its code and the draw.
--- Assumes nothing.
 use borrow.Author.Tests.{not-true, not-false}
-use Rattle.fields.proofs.Unique.{code-is}
+use Rattle.frames_rules.proofs.Unique.{code-is}
 use Rattle.model.proofs.Steps.{unanswered, answered}
 use borrow.Author.Needs.{needs}
 use Rattle.model.proofs.all_calls.answer_all_call.Statement.{statement}

@@ -1,5 +1,4 @@
 -- `model::all_calls::answers_code` meets its contract: by its case.
--- Assumes nothing.
 use borrow.Author.Needs.{needs}
 use Rattle.model.proofs.all_calls.answers_code.Statement.{statement}
 use Rattle.model.proofs.all_calls.answers_code.Tie as tie

@@ -1,5 +1,4 @@
 -- `model::all_calls::answers_free` meets its contract: by the lock and the draw.
--- Assumes nothing.
 use borrow.Author.Tests.{not-true, not-false}
 use mathlib.Core.Path.{sym, _∙_}
 use borrow.Author.Needs.{needs}

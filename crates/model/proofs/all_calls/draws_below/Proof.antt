@@ -1,8 +1,7 @@
 -- `model::all_calls::draws_below` meets its contract: by PR.
--- Assumes nothing.
 use borrow.Author.Tests.{le-leb, lt-leb}
 use native.Mathlib.Omega.{arith}
-use Rattle.transponder.specs.Replies.{drawsBelow}
+use Rattle.model_rules.specs.Replies.{drawsBelow}
 use borrow.Author.Needs.{needs}
 use Rattle.model.proofs.all_calls.draws_below.Statement.{statement}
 use Rattle.model.proofs.all_calls.draws_below.Tie as tie

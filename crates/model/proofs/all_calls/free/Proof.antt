@@ -1,5 +1,4 @@
 -- `model::all_calls::free` meets its contract: by PR and the lock.
--- Assumes nothing.
 use borrow.Author.Tests.{le-leb, lt-leb}
 use borrow.Author.Needs.{needs}
 use Rattle.model.proofs.all_calls.free.Statement.{statement}

@@ -1,5 +1,4 @@
 -- `model::closeouts::closeout` meets its contract: by who holds.
--- Assumes nothing.
 use borrow.Author.Tests.{not-true, not-false}
 use mathlib.Core.Path.{sym, _∙_}
 use Rattle.model.proofs.Steps.{not-closed, closed}

@@ -1,5 +1,4 @@
 -- `model::closeouts::closes` meets its contract: by who holds.
--- Assumes nothing.
 use borrow.Author.Needs.{needs}
 use Rattle.model.proofs.closeouts.closes.Statement.{statement}
 use Rattle.model.proofs.closeouts.closes.Tie as tie

@@ -1,5 +1,4 @@
 -- `model::closeouts::closes_for` meets its contract: test by test.
--- Assumes nothing.
 use borrow.Author.Tests.{eq-eqb, ne-eqb}
 use borrow.Author.Needs.{needs}
 use Rattle.model.proofs.closeouts.closes_for.Statement.{statement}

@@ -1,5 +1,4 @@
 -- `model::frames_taken::hear` meets its contract: by what is read.
--- Assumes nothing.
 use Rattle.model.proofs.Steps.{hears-selective, hears-all-call, hears-length, hears-format}
 use borrow.Author.Needs.{needs}
 use Rattle.model.proofs.frames_taken.hear.Statement.{statement}

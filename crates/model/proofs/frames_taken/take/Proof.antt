@@ -1,5 +1,4 @@
 -- `model::frames_taken::take` meets its contract: check by check.
--- Assumes nothing.
 use borrow.Author.Tests.{not-true, not-false}
 use mathlib.Core.Path.{sym, _∙_}
 use Rattle.model.proofs.Steps.{take-length, take-range, take-time, took}

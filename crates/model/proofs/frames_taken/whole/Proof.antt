@@ -1,5 +1,4 @@
 -- `model::frames_taken::whole` meets its contract: the two lengths.
--- Assumes nothing.
 use borrow.Author.Tests.{eq-eqb, ne-eqb}
 use Rattle.model.proofs.frames_taken.whole.Statement.{statement}
 use Rattle.model.proofs.frames_taken.whole.Tie as tie

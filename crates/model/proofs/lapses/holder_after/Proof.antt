@@ -1,5 +1,4 @@
 -- `model::lapses::holder_after` meets its contract: by its case.
--- Assumes nothing.
 use borrow.Author.Needs.{needs}
 use Rattle.model.proofs.lapses.holder_after.Statement.{statement}
 use Rattle.model.proofs.lapses.holder_after.Tie as tie

@@ -1,5 +1,4 @@
 -- `model::lapses::is_over` meets its contract: what began later is not over.
--- Assumes nothing.
 use borrow.Author.Tests.{lt-leb}
 use mathlib.Core.Path.{sym}
 use native.Mathlib.Omega.{arith}

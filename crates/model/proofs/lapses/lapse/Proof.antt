@@ -1,5 +1,4 @@
 -- `model::lapses::lapse` meets its contract: each part lapses.
--- Assumes nothing.
 use Rattle.model.proofs.Steps.{lapse-is}
 use borrow.Author.Needs.{needs}
 use Rattle.model.proofs.lapses.lapse.Statement.{statement}

@@ -1,6 +1,5 @@
 -- `model::lapses::timer_after` meets its contract: by its case.
--- Assumes nothing.
-use Rattle.transponder.specs.Lapse.{timerAfter}
+use Rattle.model_rules.specs.Lapse.{timerAfter}
 use borrow.Author.Needs.{needs}
 use Rattle.model.proofs.lapses.timer_after.Statement.{statement}
 use Rattle.model.proofs.lapses.timer_after.Tie as tie

@@ -1,11 +1,10 @@
 -- `model::lapses::timers_after` meets its contract: a map in place.
--- Assumes nothing.
 use mathlib.Core.Path.{_≡_}
 use native.Mathlib.Omega.{arith}
 use Prim.Native.Nat.{_-_, _≤_}
 use lib.ListN.{length}
 use Rattle.lists.proofs.Front.{length-mapped}
-use Rattle.transponder.specs.Lapse.{timerAfter}
+use Rattle.model_rules.specs.Lapse.{timerAfter}
 use Rattle.model.proofs.Slots.{timers-are}
 use Rattle.lists.proofs.Mapped.{Mapped, mapped-none, mapped-more, mapped-all}
 use borrow.Author.Needs.{needs}

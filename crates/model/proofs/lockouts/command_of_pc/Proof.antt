@@ -1,5 +1,4 @@
 -- `model::lockouts::command_of_pc` meets its contract: PC 1 or another.
--- Assumes nothing.
 use borrow.Author.Tests.{eq-eqb, ne-eqb}
 use Rattle.model.proofs.lockouts.command_of_pc.Statement.{statement}
 use Rattle.model.proofs.lockouts.command_of_pc.Tie as tie

@@ -1,8 +1,7 @@
 -- `model::lockouts::command_of_sd` meets its contract: by DI.
--- Assumes nothing.
 use borrow.Author.Tests.{eq-eqb, ne-eqb}
 use mathlib.Core.Path.{_∙_}
-use Rattle.transponder.specs.Lockout.{commandOfSD}
+use Rattle.model_rules.specs.Lockout.{commandOfSD}
 use borrow.Author.Needs.{needs}
 use Rattle.model.proofs.lockouts.command_of_sd.Statement.{statement}
 use Rattle.model.proofs.lockouts.command_of_sd.Tie as tie

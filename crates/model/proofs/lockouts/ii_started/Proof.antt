@@ -1,7 +1,6 @@
 -- `model::lockouts::ii_started` meets its contract: by LOS.
--- Assumes nothing.
 use borrow.Author.Tests.{eq-eqb, ne-eqb}
-use Rattle.transponder.specs.Lockout.{startedByLOS}
+use Rattle.model_rules.specs.Lockout.{startedByLOS}
 use borrow.Author.Needs.{needs}
 use Rattle.model.proofs.lockouts.ii_started.Statement.{statement}
 use Rattle.model.proofs.lockouts.ii_started.Tie as tie

@@ -1,6 +1,5 @@
 -- `model::lockouts::lockout` meets its contract: both commands.
--- Assumes nothing.
-use Rattle.transponder.specs.Lockout.{lockout, commanded}
+use Rattle.model_rules.specs.Lockout.{lockout, commanded}
 use borrow.Author.Needs.{needs}
 use Rattle.model.proofs.lockouts.lockout.Statement.{statement}
 use Rattle.model.proofs.lockouts.lockout.Tie as tie

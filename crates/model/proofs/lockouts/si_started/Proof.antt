@@ -1,7 +1,6 @@
 -- `model::lockouts::si_started` meets its contract: by LSS and SI.
--- Assumes nothing.
 use borrow.Author.Tests.{eq-eqb, ne-eqb}
-use Rattle.transponder.specs.Lockout.{startedByLSS}
+use Rattle.model_rules.specs.Lockout.{startedByLSS}
 use borrow.Author.Needs.{needs}
 use Rattle.model.proofs.lockouts.si_started.Statement.{statement}
 use Rattle.model.proofs.lockouts.si_started.Tie as tie

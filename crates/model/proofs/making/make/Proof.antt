@@ -1,9 +1,8 @@
 -- `model::making::make` meets its contract: by the ranges.
--- Assumes nothing.
 use borrow.Author.Tests.{not-true, not-false}
 use mathlib.Core.Path.{sym, _∙_}
 use native.Mathlib.Omega.{arith}
-use Rattle.transponder.specs.Calls.{making}
+use Rattle.model_rules.specs.Calls.{making}
 use Rattle.model.proofs.Slots.{make-in}
 use borrow.Author.Needs.{needs}
 use Rattle.model.proofs.making.make.Statement.{statement}

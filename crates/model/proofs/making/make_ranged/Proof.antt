@@ -1,8 +1,7 @@
 -- `model::making::make_ranged` meets its contract: test by test.
--- Assumes nothing.
 use borrow.Author.Tests.{le-leb, lt-leb}
 use native.Mathlib.Omega.{arith}
-use Rattle.transponder.specs.Calls.{makeRanged}
+use Rattle.model_rules.specs.Calls.{makeRanged}
 use Rattle.model.proofs.making.make_ranged.Statement.{statement}
 use Rattle.model.proofs.making.make_ranged.Tie as tie
 

@@ -1,7 +1,6 @@
 -- `model::making::newborn` meets its contract: field by field.
--- Assumes nothing.
 use mathlib.Core.Path.{refl}
-use Rattle.transponder.specs.Calls.{newborn}
+use Rattle.model_rules.specs.Calls.{newborn}
 use Rattle.model.proofs.making.newborn.Statement.{statement}
 use Rattle.model.proofs.making.newborn.Tie as tie
 

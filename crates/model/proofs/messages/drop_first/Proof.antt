@@ -1,9 +1,8 @@
 -- `model::messages::drop_first` meets its contract: nothing when none waits, else the others move up.
--- Assumes nothing.
 use borrow.Author.Tests.{eq-eqb, ne-eqb}
 use mathlib.Core.Path.{_≡_, sym, _∙_}
 use lib.ListN.{length}
-use Rattle.transponder.specs.State.{waiting, messagesAfter}
+use Rattle.model_rules.specs.State.{waiting, messagesAfter}
 use Rattle.model.proofs.Slots.{moved-up}
 use borrow.Author.Needs.{needs}
 use Rattle.model.proofs.messages.drop_first.Statement.{statement}

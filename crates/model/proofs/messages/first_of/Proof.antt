@@ -1,10 +1,9 @@
 -- `model::messages::first_of` meets its contract: by the count.
--- Assumes nothing.
 use mathlib.Core.Path.{sym}
 use native.Mathlib.Omega.{arith}
 use lib.ListN.{length-take, List·getD-eq-default}
 use lib.Seq.{getD-take}
-use Rattle.transponder.specs.State.{waiting}
+use Rattle.model_rules.specs.State.{waiting}
 use borrow.Author.Needs.{needs}
 use Rattle.model.proofs.messages.first_of.Statement.{statement}
 use Rattle.model.proofs.messages.first_of.Tie as tie

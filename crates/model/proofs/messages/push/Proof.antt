@@ -1,9 +1,8 @@
 -- `model::messages::push` meets its contract: one more after those that wait.
--- Assumes nothing.
 use mathlib.Core.Path.{_≡_}
 use native.Mathlib.Omega.{arith}
 use lib.ListN.{length}
-use Rattle.transponder.specs.State.{messagesWith}
+use Rattle.model_rules.specs.State.{messagesWith}
 use Rattle.lists.proofs.Over.{front-push}
 use borrow.Author.Needs.{needs}
 use Rattle.model.proofs.messages.push.Statement.{statement}

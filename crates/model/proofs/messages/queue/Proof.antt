@@ -1,5 +1,4 @@
 -- `model::messages::queue` meets its contract: test by test.
--- Assumes nothing.
 use native.Mathlib.Omega.{arith}
 use Rattle.model.proofs.Steps.{queue-length, queue-full, queued}
 use borrow.Author.Needs.{needs}

@@ -1,12 +1,11 @@
 -- `model::messages::seven_bytes` meets its contract: the number so far, followed by the bytes left, is the number.
--- Assumes nothing.
 use mathlib.Core.Path.{_≡_, refl, _∙_}
 use native.Mathlib.Omega.{arith}
 use Prim.Native.Nat.{_-_, _*_, _^_, _<_, _≤_}
 use lib.ListN.{drop, drop-of-length-le}
 use mathlib.Core.List.{[]}
-use Rattle.fields.specs.Bytes.{followed}
-use Rattle.fields.proofs.Numbers.{byte-on, turn, room}
+use Rattle.frames_rules.specs.Bytes.{followed}
+use Rattle.frames_rules.proofs.Numbers.{byte-on, turn, room}
 use Rattle.model.proofs.messages.seven_bytes.Statement.{statement}
 use Rattle.model.proofs.messages.seven_bytes.Tie as tie
 

@@ -1,5 +1,4 @@
 -- `model::messages::waits` meets its contract: by the count.
--- Assumes nothing.
 use mathlib.Core.Path.{ap}
 use Prim.Native.Nat.{ℕ}
 use mathlib.Core.Bool.{not}

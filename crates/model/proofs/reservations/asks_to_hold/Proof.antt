@@ -1,5 +1,4 @@
 -- `model::reservations::asks_to_hold` meets its contract: test by test.
--- Assumes nothing.
 use borrow.Author.Tests.{eq-eqb, ne-eqb}
 use borrow.Author.Needs.{needs}
 use Rattle.model.proofs.reservations.asks_to_hold.Statement.{statement}

@@ -1,5 +1,4 @@
 -- `model::reservations::nobody_else` meets its contract: by who holds.
--- Assumes nothing.
 use borrow.Author.Needs.{needs}
 use Rattle.model.proofs.reservations.nobody_else.Statement.{statement}
 use Rattle.model.proofs.reservations.nobody_else.Tie as tie

@@ -1,5 +1,4 @@
 -- `model::reservations::reserve` meets its contract: test by test.
--- Assumes nothing.
 use borrow.Author.Tests.{not-true, not-false}
 use mathlib.Core.Path.{sym, _∙_}
 use Rattle.model.proofs.Steps.{not-asked, none-waits, another-holds, reserved}

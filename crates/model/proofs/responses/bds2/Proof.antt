@@ -1,5 +1,4 @@
 -- `model::responses::bds2` meets its contract: by DI.
--- Assumes nothing.
 use borrow.Author.Tests.{eq-eqb, ne-eqb}
 use Rattle.model.proofs.responses.bds2.Statement.{statement}
 use Rattle.model.proofs.responses.bds2.Tie as tie

@@ -1,5 +1,4 @@
 -- `model::responses::dr_of` meets its contract: by the messages.
--- Assumes nothing.
 use borrow.Author.Needs.{needs}
 use Rattle.model.proofs.responses.dr_of.Statement.{statement}
 use Rattle.model.proofs.responses.dr_of.Tie as tie

@@ -1,5 +1,4 @@
 -- `model::responses::hides_um` meets its contract: DI 1 and RSS.
--- Assumes nothing.
 use borrow.Author.Tests.{eq-eqb, ne-eqb}
 use Rattle.model.proofs.responses.hides_um.Statement.{statement}
 use Rattle.model.proofs.responses.hides_um.Tie as tie

@@ -1,5 +1,4 @@
 -- `model::responses::mb_of` meets its contract: by RR and BDS2.
--- Assumes nothing.
 use borrow.Author.Tests.{eq-eqb, ne-eqb}
 use borrow.Author.Needs.{needs}
 use Rattle.model.proofs.responses.mb_of.Statement.{statement}

@@ -1,7 +1,6 @@
 -- `model::responses::respond` meets its contract: the format that is drawn, with the fields as they are.
--- Assumes nothing.
 use mathlib.Core.Path.{sym, _∙_}
-use Rattle.fields.proofs.Unique.{drawn-is}
+use Rattle.frames_rules.proofs.Unique.{drawn-is}
 use Rattle.model.proofs.Steps.{responded, not-drawn}
 use borrow.Author.Needs.{needs}
 use Rattle.model.proofs.responses.respond.Statement.{statement}

@@ -1,5 +1,4 @@
 -- `model::responses::um_of` meets its contract: by who holds.
--- Assumes nothing.
 use borrow.Author.Needs.{needs}
 use Rattle.model.proofs.responses.um_of.Statement.{statement}
 use Rattle.model.proofs.responses.um_of.Tie as tie

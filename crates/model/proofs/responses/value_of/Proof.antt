@@ -1,5 +1,4 @@
 -- `model::responses::value_of` meets its contract: by UF.
--- Assumes nothing.
 use borrow.Author.Tests.{eq-eqb, ne-eqb}
 use Rattle.model.proofs.responses.value_of.Statement.{statement}
 use Rattle.model.proofs.responses.value_of.Tie as tie

@@ -1,5 +1,4 @@
 -- `model::selective::heard_all_call` meets its contract: by FFFFFF.
--- Assumes nothing.
 use borrow.Author.Tests.{not-true, not-false}
 use mathlib.Core.Path.{sym, _∙_}
 use Rattle.model.proofs.Steps.{not-for-all, for-all}

@@ -1,5 +1,4 @@
 -- `model::selective::heard_selective` meets its contract: by the address.
--- Assumes nothing.
 use borrow.Author.Tests.{not-true, not-false}
 use mathlib.Core.Path.{sym, _∙_}
 use Rattle.model.proofs.Steps.{not-for-it, for-it}

@@ -1,5 +1,4 @@
 -- `model::selective::interrogated` meets its contract: the steps in their order.
--- Assumes nothing.
 use Rattle.model.proofs.Steps.{interrogated-is}
 use borrow.Author.Needs.{needs}
 use Rattle.model.proofs.selective.interrogated.Statement.{statement}

@@ -1,5 +1,4 @@
 -- `model::selective::laid_over` meets its contract: by the overlay that parity reckons.
--- Assumes nothing.
 use Rattle.model.proofs.Built.{over-is, over-length, over-range}
 use borrow.Author.Needs.{needs}
 use Rattle.model.proofs.selective.laid_over.Statement.{statement}

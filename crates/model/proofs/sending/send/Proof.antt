@@ -1,5 +1,4 @@
 -- `model::sending::send` meets its contract: by the length of the format.
--- Assumes nothing.
 use borrow.Author.Tests.{eq-eqb, ne-eqb}
 use mathlib.Core.Path.{_∙_}
 use borrow.Author.Needs.{needs}

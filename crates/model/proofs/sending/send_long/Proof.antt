@@ -1,5 +1,4 @@
 -- `model::sending::send_long` meets its contract: the frame that was built, or none.
--- Assumes nothing.
 use mathlib.Core.Path.{_∙_}
 use Rattle.model.proofs.Built.{sent-long, sent-length, sent-range}
 use borrow.Author.Needs.{needs}

@@ -1,5 +1,4 @@
 -- `model::sending::short` meets its contract: seven bytes and seven zeros.
--- Assumes nothing.
 use mathlib.Core.Path.{_≡_}
 use lib.ListN.{length}
 use Rattle.model.proofs.Slots.{seven}

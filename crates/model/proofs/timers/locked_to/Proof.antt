@@ -1,5 +1,4 @@
 -- `model::timers::locked_to` meets its contract: the lock at its place.
--- Assumes nothing.
 use mathlib.Core.Path.{_≡_}
 use native.Mathlib.Omega.{arith}
 use lib.ListN.{length}

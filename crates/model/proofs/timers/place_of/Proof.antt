@@ -1,5 +1,4 @@
 -- `model::timers::place_of` meets its contract: by its case.
--- Assumes nothing.
 use borrow.Author.Needs.{needs}
 use Rattle.model.proofs.timers.place_of.Statement.{statement}
 use Rattle.model.proofs.timers.place_of.Tie as tie

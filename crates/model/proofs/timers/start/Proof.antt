@@ -1,5 +1,4 @@
 -- `model::timers::start` meets its contract: the timer at its place, or none.
--- Assumes nothing.
 use mathlib.Core.Path.{_≡_, refl}
 use native.Mathlib.Omega.{arith}
 use lib.ListN.{length}

@@ -1,5 +1,4 @@
 -- `parity::correction::correct` meets its contract: each refusal by its test, and the rest by what `settle` decides.
--- Assumes nothing.
 use mathlib.Core.Path.{_≡_, refl, sym, ap, _∙_}
 use mathlib.Core.Bool.{true}
 use Prim.Native.Nat.{ℕ, _≤_}
@@ -8,15 +7,15 @@ use lib.Bits.{bitXor}
 use lib.ListN.{length}
 use borrow.Author.Needs.{needs}
 use borrow.Author.Tests.{lt-ltb, le-ltb, le-leb, lt-leb, not-true, not-false}
-use Rattle.remainders.specs.Messages.{bits}
-use Rattle.remainders.specs.Correction.{sized, ranged, matching, judged}
-use Rattle.remainders.specs.Steps.{back, syndromesOf}
-use Rattle.remainders.proofs.Judged.{sizes, gives-length, gives-range, gives-marks, gives-judged}
+use Rattle.parity_rules.specs.Messages.{bits}
+use Rattle.parity_rules.specs.Correction.{sized, ranged, matching, byMatches}
+use Rattle.parity_rules.specs.Steps.{back, syndromesOf}
+use Rattle.parity_rules.proofs.Judged.{sizes, gives-length, gives-range, gives-marks, gives-judged}
 use Rattle.parity.proofs.correction.correct.Statement.{statement}
 use Rattle.parity.proofs.correction.correct.Tie as tie
 
 -- the function's entry, from the places that the answers stand at
-abbrev start : tie.After-fitting → tie.Start
+abbrev start : tie.After-sized → tie.Start
 start c = c .before .before .before .before
 
 abbrev start-3 : tie.Else3 → tie.Start
@@ -27,7 +26,7 @@ start-4 c = start-3 (c .before .before .before)
 
 -- the sizes are right from here on
 sized-here : (c : tie.Else1) → let a = start (c .before) .args in sized (length (a .msg .now)) (length (a .marks .now)) (length (a .out .now)) ≡ true
-sized-here c = sym (c .before .fitting .ensures) ∙ not-false _ (c .if1 .left)
+sized-here c = sym (c .before .sized .ensures) ∙ not-false _ (c .if1 .left)
 
 sizes-here : (c : tie.Else1) → let a = start (c .before) .args in (length (a .marks .now) ≡ length (a .msg .now)) × (length (a .out .now) ≡ length (a .msg .now)) × (length (a .msg .now) ≤ 14)
 sizes-here c = let a = start (c .before) .args in sizes (length (a .msg .now)) (length (a .marks .now)) (length (a .out .now)) (sized-here c)
@@ -42,11 +41,11 @@ ranged-here c =
 gathered : (c : tie.Else4) → back (c .before .gather .result) (c .before .gather .last .1 .0) ≡ syndromesOf (bits (start-4 c .args .marks .now))
 gathered c = c .before .gather .ensures .kept (omega arith)
 
-fitting-requires : tie.Need-fitting-requires
-fitting-requires c κs = search needs
+sized-requires : tie.Need-sized-requires
+sized-requires c κs = search needs
 
 returns : tie.Need-returns
-returns c = gives-length _ _ _ _ _ (sym (c .before .fitting .ensures) ∙ not-true _ (c .if1 .taken))
+returns c = gives-length _ _ _ _ _ (sym (c .before .sized .ensures) ∙ not-true _ (c .if1 .taken))
 
 returns-2 : tie.Need-returns-2
 returns-2 c = gives-range _ _ _ _ _ (sized-here (c .before)) (rw (le-ltb (start (c .before .before) .args .overlay) 0x1000000 (omega arith)))
@@ -82,7 +81,7 @@ returns-5 c =
     let e = t .before .before .before .before in
     let a = start-4 e .args in
     t .settle .ensures
-    ∙ ap (λ (r : ℕ). judged (a .msg .now) (a .out .now) (matching (bitXor r (a .overlay)) (bits (a .marks .now)))) (t .before .before .before .remainder-of .ensures)
+    ∙ ap (λ (r : ℕ). byMatches (a .msg .now) (a .out .now) (matching (bitXor r (a .overlay)) (bits (a .marks .now)))) (t .before .before .before .remainder-of .ensures)
     ∙ gives-judged (a .msg .now) (a .marks .now) (a .overlay) (a .limit) (a .out .now) (sized-here (e .before .before .before .before .before)) (ranged-here (e .before .before .before))
     (omega (arith, e .before .gather .ensures .counted))
 
@@ -90,7 +89,7 @@ pub correct-spec : {M : Type 1} → statement M
 correct-spec =
     tie.close
     (tie.spec
-    fitting-requires
+    sized-requires
     returns
     returns-2
     returns-3

@@ -1,15 +1,14 @@
 -- `parity::correction::rebuild` meets its contract. The invariant: j bytes of the output are written.
--- Assumes nothing.
 use mathlib.Core.Path.{_≡_, refl}
 use Prim.Native.Nat.{_-_, _≤_}
 use native.Mathlib.Omega.{arith}
 use lib.ListN.{length, length-set}
-use Rattle.remainders.specs.Messages.{bits}
-use Rattle.remainders.specs.Correction.{matching}
-use Rattle.remainders.specs.Steps.{first}
-use Rattle.remainders.proofs.Bits.{bits-length}
-use Rattle.remainders.proofs.Choosing.{left-first}
-use Rattle.remainders.proofs.Written.{Written, written-start, written-step, written-end}
+use Rattle.parity_rules.specs.Messages.{bits}
+use Rattle.parity_rules.specs.Correction.{matching}
+use Rattle.parity_rules.specs.Steps.{first}
+use Rattle.parity_rules.proofs.Bits.{bits-length}
+use Rattle.parity_rules.proofs.Choosing.{left-first}
+use Rattle.parity_rules.proofs.Written.{Written, written-start, written-step, written-end}
 use Rattle.parity.proofs.correction.rebuild.Statement.{statement}
 use borrow.Author.Needs.{needs}
 use Rattle.parity.proofs.correction.rebuild.Tie as tie

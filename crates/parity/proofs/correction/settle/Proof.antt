@@ -1,14 +1,13 @@
 -- `parity::correction::settle` meets its contract: how many subsets match decides, and the one match is rebuilt.
--- Assumes nothing.
 use mathlib.Core.Path.{_≡_, sym, ap, _∙_}
 use native.Mathlib.Omega.{arith}
 use lib.ListN.{length}
 use borrow.Author.Needs.{needs}
-use Rattle.remainders.specs.Messages.{bits}
-use Rattle.remainders.specs.Correction.{matching}
-use Rattle.remainders.specs.Steps.{ways}
-use Rattle.remainders.proofs.Match.{count-law}
-use Rattle.remainders.proofs.Judged.{one, judged-none, judged-doubt, judged-one}
+use Rattle.parity_rules.specs.Messages.{bits}
+use Rattle.parity_rules.specs.Correction.{matching}
+use Rattle.parity_rules.specs.Steps.{ways}
+use Rattle.parity_rules.proofs.Match.{count-law}
+use Rattle.parity_rules.proofs.Judged.{one, judged-none, judged-doubt, judged-one}
 use Rattle.parity.proofs.correction.settle.Statement.{statement}
 use Rattle.parity.proofs.correction.settle.Tie as tie
 

@@ -1,11 +1,10 @@
 -- `parity::division::byte_in` meets its contract: eight steps of the division at once, by the linearity of the remainder.
--- Assumes nothing.
 use mathlib.Core.Path.{ap, _∙_, subst, sym}
 use Prim.Native.Nat.{ℕ, _+_, _*_, _%_, _<_}
 use native.Mathlib.Omega.{arith}
 use borrow.Author.Needs.{needs}
 use lib.Bits.{bitXor}
-use Rattle.remainders.proofs.Linear.{byte-law, byte-bits, divide-lt}
+use Rattle.parity_rules.proofs.Linear.{byte-law, byte-bits, divide-lt}
 use Rattle.parity.proofs.division.byte_in.Statement.{statement}
 use Rattle.parity.proofs.division.byte_in.Tie as tie
 

@@ -1,13 +1,12 @@
 -- `parity::division::moved_up` meets its contract: one test over the 256 bytes, which antt computes.
--- Assumes nothing.
 use mathlib.Core.Path.{_≡_, refl}
 use Prim.Native.Nat.{ℕ, _*_, _/_, _%_, _<_}
 use native.Mathlib.Omega.{arith}
 use borrow.Author.Needs.{needs}
 use lib.Bits.{bitXor, xor-lt}
 use Rattle.lists.proofs.Table.{alike}
-use Rattle.remainders.specs.Division.{shiftIn, divide}
-use Rattle.remainders.specs.Steps.{movedUp}
+use Rattle.parity_rules.specs.Division.{shiftIn, divide}
+use Rattle.parity_rules.specs.Steps.{movedUp}
 use Rattle.parity.proofs.division.moved_up.Statement.{statement}
 use Rattle.parity.proofs.division.moved_up.Tie as tie
 

@@ -1,9 +1,8 @@
 -- `parity::division::remainder` meets its contract: the length decides, and `remainder_of` reckons.
--- Assumes nothing.
 use mathlib.Core.Path.{sym, ap, _∙_}
 use borrow.Author.Needs.{needs}
 use borrow.Author.Tests.{not-true, not-false}
-use Rattle.remainders.specs.Answers.{done}
+use Rattle.parity_rules.specs.Answers.{done}
 use Rattle.parity.proofs.division.remainder.Statement.{statement}
 use Rattle.parity.proofs.division.remainder.Tie as tie
 

@@ -1,5 +1,4 @@
 -- `parity::division::remainder_of` meets its contract. The invariant: dividing on from here, over the bytes left, gives the message's remainder.
--- Assumes nothing.
 use mathlib.Core.Path.{_≡_, refl, _∙_}
 use mathlib.Core.List.{List, []}
 use Prim.Native.Nat.{ℕ, _+_, _-_, _<_, _≤_}
@@ -7,8 +6,8 @@ use native.Mathlib.Numerals.{add-one}
 use native.Mathlib.Omega.{arith}
 use lib.ListN.{length, drop, getD, drop-of-length-le}
 use lib.Seq.{drop-cons}
-use Rattle.remainders.specs.Messages.{bits, byteThen}
-use Rattle.remainders.specs.Division.{divide, remainderOf}
+use Rattle.parity_rules.specs.Messages.{bits, byteThen}
+use Rattle.parity_rules.specs.Division.{divide, remainderOf}
 use Rattle.parity.proofs.division.remainder_of.Statement.{statement}
 use Rattle.parity.proofs.division.remainder_of.Tie as tie
 

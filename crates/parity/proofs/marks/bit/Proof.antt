@@ -1,8 +1,7 @@
 -- `parity::marks::bit` meets its contract: the bit is a digit of its byte.
--- Assumes nothing.
 use Prim.Native.Nat.{_/_}
 use native.Mathlib.Omega.{arith}
-use Rattle.remainders.proofs.Bits.{bit-at}
+use Rattle.parity_rules.proofs.Bits.{bit-at}
 use Rattle.parity.proofs.marks.bit.Statement.{statement}
 use borrow.Author.Needs.{needs}
 use Rattle.parity.proofs.marks.bit.Tie as tie

@@ -1,11 +1,10 @@
 -- `parity::marks::noted` meets its contract: an unmarked bit adds nothing, a marked one its syndrome while there is room.
--- Assumes nothing.
 use mathlib.Core.Path.{_≡_}
 use lib.ListN.{length-set}
 use native.Mathlib.Numerals.{add-one}
 use native.Mathlib.Omega.{arith}
 use borrow.Author.Needs.{needs}
-use Rattle.remainders.proofs.Kept.{back-set}
+use Rattle.parity_rules.proofs.Kept.{back-set}
 use Rattle.parity.proofs.marks.noted.Statement.{statement}
 use Rattle.parity.proofs.marks.noted.Tie as tie
 

@@ -1,10 +1,9 @@
 -- `parity::overlay::code_overlay` meets its contract: the two ranges, then the sum.
--- Assumes nothing.
 use mathlib.Core.Path.{ap}
 use native.Mathlib.Omega.{arith}
 use borrow.Author.Needs.{needs}
 use borrow.Author.Tests.{le-leb, lt-leb}
-use Rattle.remainders.specs.Answers.{done}
+use Rattle.parity_rules.specs.Answers.{done}
 use Rattle.parity.proofs.overlay.code_overlay.Statement.{statement}
 use Rattle.parity.proofs.overlay.code_overlay.Tie as tie
 

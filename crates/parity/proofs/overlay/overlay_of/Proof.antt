@@ -1,12 +1,11 @@
 -- `parity::overlay::overlay_of` meets its contract. The invariant: going on from here, over the bits left, gives the product.
--- Assumes nothing.
 use mathlib.Core.Path.{_≡_, refl, ap}
 use Prim.Native.Nat.{ℕ, _-_, _/_, _<_, _≤_, _^_}
 use native.Mathlib.Nat.{lt-of-lt-of-le}
 use native.Mathlib.Omega.{arith}
 use lib.Pow.{pow-mono}
-use Rattle.remainders.specs.Overlays.{lowBits, times, overlayOf}
-use Rattle.remainders.proofs.Product.{turn}
+use Rattle.parity_rules.specs.Overlays.{lowBits, times, overlayOf}
+use Rattle.parity_rules.proofs.Product.{turn}
 use Rattle.parity.proofs.overlay.overlay_of.Statement.{statement}
 use Rattle.parity.proofs.overlay.overlay_of.Tie as tie
 

@@ -1,10 +1,9 @@
 -- `parity::overlay::uplink_overlay` meets its contract: the range, then the product's upper half.
--- Assumes nothing.
 use mathlib.Core.Path.{ap}
 use native.Mathlib.Omega.{arith}
 use borrow.Author.Needs.{needs}
 use borrow.Author.Tests.{le-ltb, lt-ltb}
-use Rattle.remainders.specs.Answers.{done}
+use Rattle.parity_rules.specs.Answers.{done}
 use Rattle.parity.proofs.overlay.uplink_overlay.Statement.{statement}
 use Rattle.parity.proofs.overlay.uplink_overlay.Tie as tie
 

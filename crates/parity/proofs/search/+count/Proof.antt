@@ -1,5 +1,4 @@
 -- `parity::search::count` meets its contract: the ways with the next syndrome taken, and those without it.
--- Assumes nothing.
 use Prim.Native.Nat.{ℕ, _<_, _-_, _+_}
 use native.Mathlib.Omega.{arith}
 use mathlib.Core.Path.{_≡_, sym, ap₂, _∙_}
@@ -8,7 +7,7 @@ use lib.Bits.{bitXor}
 use borrow.Author.Needs.{needs}
 use borrow.Fn.Kinds.{In}
 use borrow.Fn.PlainCycle.{Measures, is, falls, and}
-use Rattle.remainders.proofs.Kept.{ways-end, ways-next, ways-small}
+use Rattle.parity_rules.proofs.Kept.{ways-end, ways-next, ways-small}
 use Rattle.parity.proofs.search.count.Reads as count
 use Rattle.parity.proofs.search.count.Kinds as count-kinds
 use Rattle.parity.proofs.search.hit.Reads as hit-reads

@@ -1,13 +1,12 @@
 -- `parity::search::choose` meets its contract: the one match from i on comes from the matches after i.
--- Assumes nothing.
 use mathlib.Core.Path.{_≡_, sym, _∙_}
 use Prim.Native.Nat.{_<_}
 use native.Mathlib.Omega.{arith}
 use lib.ListN.{length, getD}
 use borrow.Author.Needs.{needs}
-use Rattle.remainders.specs.Messages.{bits}
-use Rattle.remainders.proofs.Bits.{bits-length}
-use Rattle.remainders.proofs.Choosing.{plain-on, marked, mark-take, mark-leave}
+use Rattle.parity_rules.specs.Messages.{bits}
+use Rattle.parity_rules.proofs.Bits.{bits-length}
+use Rattle.parity_rules.proofs.Choosing.{plain-on, marked, mark-take, mark-leave}
 use Rattle.parity.proofs.search.choose.Statement.{statement}
 use Rattle.parity.proofs.search.choose.Tie as tie
 

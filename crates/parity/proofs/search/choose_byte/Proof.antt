@@ -1,15 +1,14 @@
 -- `parity::search::choose_byte` meets its contract. The invariant: t places of the byte are chosen.
--- Assumes nothing.
 use native.Mathlib.Nat.{lt-of-lt-of-le}
 use Prim.Native.Nat.{_-_, _*_, _<_, _≤_}
 use native.Mathlib.Omega.{arith}
 use lib.ListN.{drop}
 use lib.Pow.{pow-mono}
-use Rattle.remainders.specs.Messages.{bits}
-use Rattle.remainders.specs.Correction.{matching}
-use Rattle.remainders.specs.Steps.{first}
-use Rattle.remainders.proofs.Choosing.{left-first}
-use Rattle.remainders.proofs.Written.{ByteAt, byte-start, byte-step, byte-end}
+use Rattle.parity_rules.specs.Messages.{bits}
+use Rattle.parity_rules.specs.Correction.{matching}
+use Rattle.parity_rules.specs.Steps.{first}
+use Rattle.parity_rules.proofs.Choosing.{left-first}
+use Rattle.parity_rules.proofs.Written.{ByteAt, byte-start, byte-step, byte-end}
 use Rattle.parity.proofs.search.choose_byte.Statement.{statement}
 use Rattle.parity.proofs.search.choose_byte.Tie as tie
 

@@ -1,9 +1,8 @@
 -- `parity::search::hit` meets its contract.
--- Assumes nothing.
 use mathlib.Core.Path.{sym}
 use native.Mathlib.Omega.{arith}
 use borrow.Author.Tests.{eq-eqb, ne-eqb}
-use Rattle.remainders.specs.Steps.{ways}
+use Rattle.parity_rules.specs.Steps.{ways}
 use Rattle.parity.proofs.search.hit.Statement.{statement}
 use Rattle.parity.proofs.search.hit.Tie as tie
 

@@ -1,10 +1,9 @@
 -- `parity::syndrome::syndrome_of` meets its contract: the table's rule is one test that antt computes over its 112 entries.
--- Assumes nothing.
 use mathlib.Core.Path.{_≡_, _∙_, ap}
 use Prim.Native.Nat.{ℕ, _-_, _<_}
 use native.Mathlib.Omega.{arith}
 use borrow.Author.Needs.{needs}
-use Rattle.remainders.specs.Division.{syndrome, remainderOf, divide, shiftIn}
+use Rattle.parity_rules.specs.Division.{syndrome, remainderOf, divide, shiftIn}
 use Rattle.lists.proofs.Table.{entry}
 use Rattle.parity.proofs.syndrome.syndrome_of.Statement.{statement}
 use Rattle.parity.proofs.syndrome.syndrome_of.Tie as tie

@@ -1,6 +1,6 @@
 -- `alone_in` is the unit's share among zeros.
 use mathlib.Core.Path.{refl}
-use Rattle.plans.specs.Plan.{alone}
+use Rattle.planner_rules.specs.Plan.{alone}
 use borrow.Author.Needs.{needs}
 use Rattle.planner.proofs.plan.alone_in.Statement.{statement}
 use Rattle.planner.proofs.plan.alone_in.Tie as tie

@@ -6,7 +6,7 @@ use mathlib.Core.List.{map-id}
 use lib.ListN.{length, take}
 use Rattle.lists.proofs.Front.{length-mapped}
 use Rattle.lists.proofs.Copied.{Copied, copied-none, copied-more, copied-front}
-use Rattle.plans.specs.declared.request.Ask.{Ask}
+use Rattle.planner_rules.specs.declared.request.Ask.{Ask}
 use borrow.Author.Needs.{needs}
 use Rattle.planner.proofs.plan.over_slots.Statement.{statement}
 use Rattle.planner.proofs.plan.over_slots.Tie as tie

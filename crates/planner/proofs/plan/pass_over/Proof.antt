@@ -4,7 +4,7 @@ use native.Mathlib.Omega.{arith}
 use mathlib.Core.Path.{_≡_, sym, _∙_}
 use lib.ListN.{length, length-set}
 use Rattle.lists.proofs.Front.{length-mapped}
-use Rattle.plans.specs.declared.plan.Planned.{Planned}
+use Rattle.planner_rules.specs.declared.plan.Planned.{Planned}
 use Rattle.planner.specs.Promises.{Shown}
 use Rattle.planner.proofs.Rows.{shown-placed}
 use Rattle.planner.proofs.Passing.{Passing, pass-start, pass-small, pass-limit, pass-stay, pass-at, pass-end}

@@ -4,10 +4,10 @@ use native.Mathlib.Omega.{arith}
 use mathlib.Core.Path.{_≡_, refl, ap}
 use mathlib.Core.List.{List}
 use lib.ListN.{length}
-use Rattle.plans.specs.declared.request.Ask.{Ask}
-use Rattle.plans.specs.declared.entry.Entry.{Entry}
+use Rattle.planner_rules.specs.declared.request.Ask.{Ask}
+use Rattle.planner_rules.specs.declared.entry.Entry.{Entry}
 use Rattle.planner.specs.declared.exchange.Exchange.{Exchange}
-use Rattle.plans.specs.Exchange.{exchangeOf, entryAt}
+use Rattle.planner_rules.specs.Exchange.{exchangeOf, entryAt}
 use Rattle.planner.specs.Promises.{held, Roomy, Shown}
 use Rattle.planner.proofs.Steps.{Rounds, round-first, round-new, round-more, found, none-left}
 use borrow.Author.Needs.{needs}

@@ -3,7 +3,7 @@ use Prim.Native.Nat.{ℕ, _+_, _*_, _≤_, _<_, _^_}
 use native.Mathlib.Omega.{arith}
 use native.Mathlib.Nat.{mul-le-mul, lt-of-le-of-lt}
 use lib.Dec.{lit<}
-use Rattle.plans.specs.Shares.{sharesFit}
+use Rattle.planner_rules.specs.Shares.{sharesFit}
 use borrow.Author.Needs.{needs}
 use Rattle.planner.proofs.shares.fit.Statement.{statement}
 use Rattle.planner.proofs.shares.fit.Tie as tie

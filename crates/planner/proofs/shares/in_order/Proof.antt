@@ -1,5 +1,5 @@
 -- `in_order` looks at the eight pairs.
-use Rattle.plans.specs.Shares.{share, ordered}
+use Rattle.planner_rules.specs.Shares.{share, ordered}
 use Prim.Native.Nat.{_≤_, _-_}
 use native.Mathlib.Omega.{arith}
 use mathlib.Core.Path.{_≡_, sym, ap, _∙_}
@@ -7,7 +7,7 @@ use mathlib.Core.Bool.{true}
 use borrow.Author.Tests.{le-leb, lt-leb}
 use Rattle.lists.specs.Lists.{every}
 use Rattle.lists.proofs.Every.{every-none, every-more, every-fails}
-use Rattle.plans.specs.Shares.{ordered}
+use Rattle.planner_rules.specs.Shares.{ordered}
 use borrow.Author.Needs.{needs}
 use Rattle.planner.proofs.shares.in_order.Statement.{statement}
 use Rattle.planner.proofs.shares.in_order.Tie as tie

@@ -1,5 +1,5 @@
 -- `in_range` looks at the eight shares.
-use Rattle.plans.specs.Shares.{share, inRange}
+use Rattle.planner_rules.specs.Shares.{share, inRange}
 use Prim.Native.Nat.{_≤_, _-_}
 use native.Mathlib.Omega.{arith}
 use mathlib.Core.Path.{_≡_, sym, ap, _∙_}
@@ -7,7 +7,7 @@ use mathlib.Core.Bool.{true}
 use borrow.Author.Tests.{le-leb, lt-leb}
 use Rattle.lists.specs.Lists.{every}
 use Rattle.lists.proofs.Every.{every-none, every-more, every-fails}
-use Rattle.plans.specs.Shares.{inRange}
+use Rattle.planner_rules.specs.Shares.{inRange}
 use borrow.Author.Needs.{needs}
 use Rattle.planner.proofs.shares.in_range.Statement.{statement}
 use Rattle.planner.proofs.shares.in_range.Tie as tie

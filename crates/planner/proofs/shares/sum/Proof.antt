@@ -4,7 +4,7 @@ use native.Mathlib.Omega.{arith}
 use mathlib.Core.Path.{_≡_, ap, _∙_}
 use Rattle.lists.specs.Lists.{total}
 use Rattle.lists.proofs.Total.{total-none, total-more}
-use Rattle.plans.specs.Shares.{share}
+use Rattle.planner_rules.specs.Shares.{share}
 use borrow.Author.Needs.{needs}
 use Rattle.planner.proofs.shares.sum.Statement.{statement}
 use Rattle.planner.proofs.shares.sum.Tie as tie

@@ -1,6 +1,6 @@
 -- `body_length` reads the definition's own list.
 use mathlib.Core.Path.{refl}
-use Rattle.records.specs.Records.{bodyLength}
+use Rattle.reader_rules.specs.Records.{bodyLength}
 use Rattle.reader.proofs.Numbers.{body-none}
 use borrow.Author.Needs.{needs}
 use Rattle.reader.proofs.kinds.body_length.Statement.{statement}

@@ -1,7 +1,7 @@
 -- `message_length` tests for the long reply.
 use native.Mathlib.Omega.{arith}
 use borrow.Author.Tests.{eq-eqb, ne-eqb}
-use Rattle.records.specs.Records.{messageLength}
+use Rattle.reader_rules.specs.Records.{messageLength}
 use Rattle.reader.proofs.kinds.message_length.Statement.{statement}
 use Rattle.reader.proofs.kinds.message_length.Tie as tie
 

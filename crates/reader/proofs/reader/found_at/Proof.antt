@@ -37,14 +37,14 @@ use denote.Triple.Table.{entered, cited}
 use denote.Triple.Walked.{says, Stays, stay-none, stay-none-slice, walkOf, goes-none, goes-none-slice, Walks, ends-at, walked, walk-meets}
 use denote.Exit.{yes}
 use denote.Triple.Clauses.{ensured, lasts}
-use Rattle.records.specs.Answers.{foundSaid, toldAt}
-use Rattle.records.specs.Readers.{readerAt, toldBy}
-use Rattle.records.specs.declared.reader.Reader.{Reader}
-use Rattle.records.specs.declared.reading.Found.{Found}
-use Rattle.records.proofs.reader.Reader as T
-use Rattle.records.proofs.reader.Reader.Laws as T′
-use Rattle.records.proofs.reading.Found as S
-use Rattle.records.proofs.reading.Found.Laws as S′
+use Rattle.reader_rules.specs.Answers.{foundSaid, toldAt}
+use Rattle.reader_rules.specs.Readers.{readerAt, toldBy}
+use Rattle.reader_rules.specs.declared.reader.Reader.{Reader}
+use Rattle.reader_rules.specs.declared.reading.Found.{Found}
+use Rattle.reader_rules.proofs.reader.Reader as T
+use Rattle.reader_rules.proofs.reader.Reader.Laws as T′
+use Rattle.reader_rules.proofs.reading.Found as S
+use Rattle.reader_rules.proofs.reading.Found.Laws as S′
 use Rattle.reader.proofs.reader.reader_at as new
 use Rattle.reader.proofs.reader.reader_at.Symbol as new-def
 use Rattle.reader.proofs.reader.reader_at.Symbol.{name as #reader·reader-at}

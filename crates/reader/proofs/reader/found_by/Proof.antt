@@ -42,14 +42,14 @@ use denote.Triple.Table.{entered, cited}
 use denote.Triple.Walked.{says, Stays, stay-none, walkOf, goes-none, Walks, ends-at, walked, walk-meets}
 use denote.Exit.{yes}
 use denote.Triple.Clauses.{ensured, lasts}
-use Rattle.records.specs.Answers.{foundSaid}
-use Rattle.records.specs.Readers.{toldBy}
-use Rattle.records.specs.declared.reader.Reader.{Reader}
-use Rattle.records.specs.declared.reading.Found.{Found}
-use Rattle.records.proofs.reader.Reader as T
-use Rattle.records.proofs.reader.Reader.Laws as T′
-use Rattle.records.proofs.reading.Found as S
-use Rattle.records.proofs.reading.Found.Laws as S′
+use Rattle.reader_rules.specs.Answers.{foundSaid}
+use Rattle.reader_rules.specs.Readers.{toldBy}
+use Rattle.reader_rules.specs.declared.reader.Reader.{Reader}
+use Rattle.reader_rules.specs.declared.reading.Found.{Found}
+use Rattle.reader_rules.proofs.reader.Reader as T
+use Rattle.reader_rules.proofs.reader.Reader.Laws as T′
+use Rattle.reader_rules.proofs.reading.Found as S
+use Rattle.reader_rules.proofs.reading.Found.Laws as S′
 use Rattle.reader.proofs.reading.record_at as step
 use Rattle.reader.proofs.reading.record_at.Symbol as step-def
 use Rattle.reader.proofs.reading.record_at.Symbol.{name as #reader·record-at}

@@ -42,11 +42,11 @@ use denote.Triple.Table.{entered, cited}
 use denote.Triple.Walked.{says, Stays, stay-none, walkOf, goes-none, Walks, ends-at, walked, walk-meets}
 use denote.Exit.{yes}
 use denote.Triple.Clauses.{ensured, lasts}
-use Rattle.records.specs.Records.{recordAt, nextPlace}
-use Rattle.records.specs.Readers.{readerAt}
-use Rattle.records.specs.declared.reader.Reader.{Reader}
-use Rattle.records.proofs.reader.Reader as T
-use Rattle.records.proofs.reader.Reader.Laws as T′
+use Rattle.reader_rules.specs.Records.{recordAt, nextPlace}
+use Rattle.reader_rules.specs.Readers.{readerAt}
+use Rattle.reader_rules.specs.declared.reader.Reader.{Reader}
+use Rattle.reader_rules.proofs.reader.Reader as T
+use Rattle.reader_rules.proofs.reader.Reader.Laws as T′
 use Rattle.reader.proofs.reading.next_place as step
 use Rattle.reader.proofs.reading.next_place.Symbol as step-def
 use Rattle.reader.proofs.reading.next_place.Symbol.{name as #reader·next-place}

@@ -33,10 +33,10 @@ use denote.Triple.Spec.{Meets, tripleOf}
 use denote.Triple.Table.{entered}
 use denote.Triple.Walked.{says, Stays, stay-none, stay-none-slice, walkOf, goes-none, goes-none-slice, Walks, ends-at, walked, walk-meets}
 use denote.Exit.{yes}
-use Rattle.records.specs.declared.reader.Reader.{Reader}
-use Rattle.records.specs.Readers.{readerAt}
-use Rattle.records.proofs.reader.Reader as T
-use Rattle.records.proofs.reader.Reader.Laws as T′
+use Rattle.reader_rules.specs.declared.reader.Reader.{Reader}
+use Rattle.reader_rules.specs.Readers.{readerAt}
+use Rattle.reader_rules.proofs.reader.Reader as T
+use Rattle.reader_rules.proofs.reader.Reader.Laws as T′
 use Rattle.reader.proofs.reader.reader_at.Key.{name as #reader·reader-at}
 use Rattle.reader.proofs.reader.reader_at as new
 use Rattle.reader.proofs.reader.reader_at.Statement as stated

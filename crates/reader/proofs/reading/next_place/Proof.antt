@@ -5,11 +5,11 @@ use mathlib.Core.Path.{_≡_, refl, sym, ap, _∙_}
 use mathlib.Core.List.{[], _∷_}
 use types.Run.{OneOf, miss}
 use denote.Enum.Declared.{tagOf}
-use Rattle.records.specs.declared.reading.Found.{Found}
-use Rattle.records.specs.declared.reading.Found.the-variants.{End, Unknown, Cut, Whole}
-use Rattle.records.specs.Records.{nextPlace}
-use Rattle.records.proofs.Answers.{found-is}
-use Rattle.records.proofs.reading.Found as S
+use Rattle.reader_rules.specs.declared.reading.Found.{Found}
+use Rattle.reader_rules.specs.declared.reading.Found.the-variants.{End, Unknown, Cut, Whole}
+use Rattle.reader_rules.specs.Records.{nextPlace}
+use Rattle.reader_rules.proofs.Answers.{found-is}
+use Rattle.reader_rules.proofs.reading.Found as S
 use Rattle.reader.proofs.reading.next_place.Statement.{statement}
 use Rattle.reader.proofs.reading.next_place.Tie as tie
 

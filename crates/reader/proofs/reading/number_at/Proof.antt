@@ -2,7 +2,7 @@
 use Prim.Native.Nat.{_≤_, _<_, _-_, _+_, _^_}
 use mathlib.Core.Path.{_≡_, _∙_}
 use native.Mathlib.Omega.{arith}
-use Rattle.records.specs.Records.{numberAt}
+use Rattle.reader_rules.specs.Records.{numberAt}
 use Rattle.reader.proofs.Numbers.{number-none, number-more, number-below, bytes-below}
 use borrow.Author.Needs.{needs}
 use Rattle.reader.proofs.reading.number_at.Statement.{statement}

@@ -1,8 +1,8 @@
 -- `record_at` makes the definition's tests in their order.
 use native.Mathlib.Omega.{arith}
 use borrow.Author.Tests.{le-leb, lt-leb, eq-eqb, ne-eqb, lt-ltb, le-ltb}
-use Rattle.records.specs.Records.{recordAt}
-use Rattle.records.specs.Answers.{toldAt}
+use Rattle.reader_rules.specs.Records.{recordAt}
+use Rattle.reader_rules.specs.Answers.{toldAt}
 use borrow.Author.Needs.{needs}
 use Rattle.reader.proofs.reading.record_at.Statement.{statement}
 use Rattle.reader.proofs.reading.record_at.Tie as tie

@@ -1,5 +1,4 @@
 -- `station::ages::age_after` meets its contract: one more, up to the last.
--- Assumes nothing.
 use native.Mathlib.Omega.{arith}
 use borrow.Author.Tests.{lt-ltb, le-ltb}
 use borrow.Author.Needs.{needs}

@@ -1,5 +1,4 @@
 -- `station::ages::all_older` meets its contract: a map in place.
--- Assumes nothing.
 use mathlib.Core.Path.{_≡_}
 use native.Mathlib.Omega.{arith}
 use Prim.Native.Nat.{_-_, _≤_}
@@ -7,7 +6,7 @@ use lib.ListN.{length}
 use Rattle.lists.proofs.Front.{length-mapped}
 use Rattle.lists.proofs.Copied.{copied-count}
 use Rattle.lists.proofs.Mapped.{Mapped, mapped-none, mapped-more, mapped-front}
-use Rattle.histories.specs.State.{older}
+use Rattle.station_rules.specs.State.{older}
 use borrow.Author.Needs.{needs}
 use Rattle.station.proofs.ages.all_older.Statement.{statement}
 use Rattle.station.proofs.ages.all_older.Tie as tie

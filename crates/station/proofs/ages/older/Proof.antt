@@ -1,5 +1,4 @@
 -- `station::ages::older` meets its contract: each value by itself.
--- Assumes nothing.
 use borrow.Author.Needs.{needs}
 use Rattle.station.proofs.ages.older.Statement.{statement}
 use Rattle.station.proofs.ages.older.Tie as tie

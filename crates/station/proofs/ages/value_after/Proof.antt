@@ -1,5 +1,4 @@
 -- `station::ages::value_after` meets its contract: by its case.
--- Assumes nothing.
 use borrow.Author.Needs.{needs}
 use Rattle.station.proofs.ages.value_after.Statement.{statement}
 use Rattle.station.proofs.ages.value_after.Tie as tie

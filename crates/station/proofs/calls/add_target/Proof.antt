@@ -1,8 +1,7 @@
 -- `station::calls::add_target` meets its contract: test by test.
--- Assumes nothing.
 use mathlib.Core.Path.{sym, _∙_}
 use borrow.Author.Tests.{leb-false}
-use Rattle.histories.specs.Calls.{newTarget}
+use Rattle.station_rules.specs.Calls.{newTarget}
 use borrow.Author.Needs.{needs}
 use Rattle.station.proofs.calls.add_target.Statement.{statement}
 use Rattle.station.proofs.calls.add_target.Tie as tie

@@ -1,8 +1,7 @@
 -- `station::calls::move_target` meets its contract: test by test.
--- Assumes nothing.
 use mathlib.Core.Path.{sym, _∙_}
 use borrow.Author.Tests.{not-false}
-use Rattle.histories.specs.Calls.{moved}
+use Rattle.station_rules.specs.Calls.{moved}
 use borrow.Author.Needs.{needs}
 use Rattle.station.proofs.calls.move_target.Statement.{statement}
 use Rattle.station.proofs.calls.move_target.Tie as tie

@@ -1,5 +1,4 @@
 -- `station::calls::refused_report` meets its contract: field by field.
--- Assumes nothing.
 use borrow.Author.Needs.{needs}
 use Rattle.station.proofs.calls.refused_report.Statement.{statement}
 use Rattle.station.proofs.calls.refused_report.Tie as tie

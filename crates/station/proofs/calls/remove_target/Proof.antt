@@ -1,6 +1,5 @@
 -- `station::calls::remove_target` meets its contract: test by test.
--- Assumes nothing.
-use Rattle.histories.specs.Calls.{removed, without}
+use Rattle.station_rules.specs.Calls.{removed, without}
 use borrow.Author.Needs.{needs}
 use Rattle.station.proofs.calls.remove_target.Statement.{statement}
 use Rattle.station.proofs.calls.remove_target.Tie as tie

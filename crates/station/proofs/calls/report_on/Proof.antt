@@ -1,6 +1,5 @@
 -- `station::calls::report_on` meets its contract: test by test.
--- Assumes nothing.
-use Rattle.histories.specs.Calls.{reported}
+use Rattle.station_rules.specs.Calls.{reported}
 use borrow.Author.Needs.{needs}
 use Rattle.station.proofs.calls.report_on.Statement.{statement}
 use Rattle.station.proofs.calls.report_on.Tie as tie

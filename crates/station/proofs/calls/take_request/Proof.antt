@@ -1,7 +1,6 @@
 -- `station::calls::take_request` meets its contract: test by test.
--- Assumes nothing.
 use mathlib.Core.Path.{sym, _∙_}
-use Rattle.histories.specs.Calls.{requested}
+use Rattle.station_rules.specs.Calls.{requested}
 use Rattle.station.proofs.Held.{slot-left}
 use borrow.Author.Needs.{needs}
 use Rattle.station.proofs.calls.take_request.Statement.{statement}

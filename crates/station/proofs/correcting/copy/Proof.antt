@@ -1,5 +1,4 @@
 -- `station::correcting::copy` meets its contract: byte by byte.
--- Assumes nothing.
 use mathlib.Core.Path.{_≡_, _∙_}
 use mathlib.Core.List.{map-id}
 use native.Mathlib.Omega.{arith}

@@ -1,5 +1,4 @@
 -- `station::correcting::correct_as` meets its contract: what the trial says.
--- Assumes nothing.
 use mathlib.Core.Path.{_≡_, sym, ap, subst, _∙_}
 use mathlib.Core.List.{List}
 use Prim.Native.Nat.{ℕ, _<_}

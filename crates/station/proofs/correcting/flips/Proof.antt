@@ -1,5 +1,4 @@
 -- `station::correcting::flips` meets its contract: by its case.
--- Assumes nothing.
 use borrow.Author.Needs.{needs}
 use Rattle.station.proofs.correcting.flips.Statement.{statement}
 use Rattle.station.proofs.correcting.flips.Tie as tie

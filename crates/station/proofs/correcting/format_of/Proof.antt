@@ -1,5 +1,4 @@
 -- `station::correcting::format_of` meets its contract: from the first byte.
--- Assumes nothing.
 use native.Mathlib.Omega.{arith}
 use Rattle.station.proofs.Leaves.{format-is}
 use borrow.Author.Needs.{needs}

@@ -1,5 +1,4 @@
 -- `station::correcting::number` meets its contract: by its case.
--- Assumes nothing.
 use borrow.Author.Needs.{needs}
 use Rattle.station.proofs.correcting.number.Statement.{statement}
 use Rattle.station.proofs.correcting.number.Tie as tie

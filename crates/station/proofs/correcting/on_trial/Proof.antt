@@ -1,5 +1,4 @@
 -- `station::correcting::on_trial` meets its contract: by the correction's answer, then by the format.
--- Assumes nothing.
 use Rattle.station.proofs.Trials.{trial-refused, trial-other, trial-taken}
 use borrow.Author.Needs.{needs}
 use Rattle.station.proofs.correcting.on_trial.Statement.{statement}

@@ -1,5 +1,4 @@
 -- `station::correcting::value_in` meets its contract: from the third and fourth byte.
--- Assumes nothing.
 use native.Mathlib.Omega.{arith}
 use Rattle.station.proofs.Leaves.{value-is}
 use borrow.Author.Needs.{needs}

@@ -1,5 +1,4 @@
 -- `station::entries::all_withdrawn` meets its contract: a map in place.
--- Assumes nothing.
 use mathlib.Core.Path.{_≡_, refl}
 use native.Mathlib.Omega.{arith}
 use Prim.Native.Nat.{_-_, _≤_}
@@ -7,7 +6,7 @@ use lib.ListN.{length}
 use Rattle.lists.proofs.Front.{length-mapped}
 use Rattle.lists.proofs.Copied.{copied-count}
 use Rattle.lists.proofs.Mapped.{Mapped, mapped-none, mapped-more, mapped-front}
-use Rattle.histories.specs.State.{withdrawn}
+use Rattle.station_rules.specs.State.{withdrawn}
 use borrow.Author.Needs.{needs}
 use Rattle.station.proofs.entries.all_withdrawn.Statement.{statement}
 use Rattle.station.proofs.entries.all_withdrawn.Tie as tie

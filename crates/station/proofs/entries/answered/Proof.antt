@@ -1,12 +1,11 @@
 -- `station::entries::answered` meets its contract: the entry made anew in its place.
--- Assumes nothing.
 use mathlib.Core.Path.{_≡_}
 use native.Mathlib.Omega.{arith}
 use lib.ListN.{length, getD, set, length-set, length-take}
 use Rattle.lists.proofs.Front.{length-mapped}
 use Rattle.lists.proofs.Over.{front-set}
-use Rattle.plans.specs.declared.entry.Mark.the-variants.{Answered}
-use Rattle.histories.specs.State.{entriesOf, marked, noEntry}
+use Rattle.planner_rules.specs.declared.entry.Status.the-variants.{Answered}
+use Rattle.station_rules.specs.State.{entriesOf, withStatus, noEntry}
 use borrow.Author.Needs.{needs}
 use Rattle.station.proofs.entries.answered.Statement.{statement}
 use Rattle.station.proofs.entries.answered.Tie as tie
@@ -28,7 +27,7 @@ returns c = let s = c .before .before .before in
     let p = s .args .p in
     let k = s .args .k in
     let e : length (p .list) ≡ 128 = search (needs, length-mapped) in
-    let y = marked Answered (getD (entriesOf p) k noEntry) in
+    let y = withStatus Answered (getD (entriesOf p) k noEntry) in
     let q = c .before .entry-of .ensures in
     let l = front-set (p .n) (p .list) k y (s .pre) in
     let h : c .before .before .live .result ≡ length (set (entriesOf p) k y) = omega (arith, length-set (entriesOf p) k y, length-take (p .n) (p .list)) in

@@ -1,5 +1,4 @@
 -- `station::entries::entry_count` meets its contract: the count, cut to the slots.
--- Assumes nothing.
 use mathlib.Core.Path.{_≡_}
 use native.Mathlib.Omega.{arith}
 use lib.ListN.{length, length-take}

@@ -1,5 +1,4 @@
 -- `station::entries::entry_of` meets its contract: a read within the list.
--- Assumes nothing.
 use mathlib.Core.Path.{_≡_, sym, _∙_}
 use native.Mathlib.Nat.{min-le-left}
 use native.Mathlib.Omega.{arith}
@@ -7,7 +6,7 @@ use Prim.Native.Nat.{_≤_}
 use lib.ListN.{length, length-take, List·getD-eq-default}
 use lib.Seq.{getD-take}
 use Rattle.lists.proofs.Front.{length-mapped}
-use Rattle.histories.specs.State.{entriesOf, noEntry}
+use Rattle.station_rules.specs.State.{entriesOf, noEntry}
 use borrow.Author.Needs.{needs}
 use Rattle.station.proofs.entries.entry_of.Statement.{statement}
 use Rattle.station.proofs.entries.entry_of.Tie as tie

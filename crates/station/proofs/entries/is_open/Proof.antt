@@ -1,5 +1,4 @@
 -- `station::entries::is_open` meets its contract: by its case.
--- Assumes nothing.
 use borrow.Author.Needs.{needs}
 use Rattle.station.proofs.entries.is_open.Statement.{statement}
 use Rattle.station.proofs.entries.is_open.Tie as tie

@@ -1,5 +1,4 @@
 -- `station::entries::no_ask` meets its contract: a slot of nothing.
--- Assumes nothing.
 use borrow.Author.Needs.{needs}
 use Rattle.station.proofs.entries.no_ask.Statement.{statement}
 use Rattle.station.proofs.entries.no_ask.Tie as tie

@@ -1,5 +1,4 @@
 -- `station::entries::no_entry` meets its contract: a slot of nothing.
--- Assumes nothing.
 use borrow.Author.Needs.{needs}
 use Rattle.station.proofs.entries.no_entry.Statement.{statement}
 use Rattle.station.proofs.entries.no_entry.Tie as tie

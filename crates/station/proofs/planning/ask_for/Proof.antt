@@ -1,5 +1,4 @@
 -- `station::planning::ask_for` meets its contract: by its target.
--- Assumes nothing.
 use borrow.Author.Needs.{needs}
 use Rattle.station.proofs.planning.ask_for.Statement.{statement}
 use Rattle.station.proofs.planning.ask_for.Tie as tie

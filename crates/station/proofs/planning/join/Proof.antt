@@ -1,12 +1,11 @@
 -- `station::planning::join` meets its contract: each request with its edges.
--- Assumes nothing.
 use mathlib.Core.Path.{_≡_}
 use native.Mathlib.Omega.{arith}
 use Prim.Native.Nat.{_-_, _≤_}
 use lib.ListN.{length, length-replicate}
 use Rattle.lists.proofs.Front.{length-mapped}
 use Rattle.lists.proofs.Copied.{Copied, copied-none, copied-more, copied-front, copied-count}
-use Rattle.histories.specs.Planning.{askFor}
+use Rattle.station_rules.specs.Planning.{askFor}
 use borrow.Author.Needs.{needs}
 use Rattle.station.proofs.planning.join.Statement.{statement}
 use Rattle.station.proofs.planning.join.Tie as tie

@@ -1,5 +1,4 @@
 -- `station::planning::plan_period` meets its contract: the planner's answer, part by part.
--- Assumes nothing.
 use Rattle.station.proofs.Joining.{plan-is}
 use borrow.Author.Needs.{needs}
 use Rattle.station.proofs.planning.plan_period.Statement.{statement}

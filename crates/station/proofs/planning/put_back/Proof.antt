@@ -1,12 +1,11 @@
 -- `station::planning::put_back` meets its contract: each request into the slots.
--- Assumes nothing.
 use mathlib.Core.Path.{_≡_}
 use native.Mathlib.Omega.{arith}
 use Prim.Native.Nat.{_-_, _≤_}
 use lib.ListN.{length}
 use Rattle.lists.proofs.Front.{length-mapped}
 use Rattle.lists.proofs.Copied.{Copied, copied-none, copied-more, copied-front, copied-count}
-use Rattle.histories.specs.Planning.{requestOf}
+use Rattle.station_rules.specs.Planning.{requestOf}
 use borrow.Author.Needs.{needs}
 use Rattle.station.proofs.planning.put_back.Statement.{statement}
 use Rattle.station.proofs.planning.put_back.Tie as tie

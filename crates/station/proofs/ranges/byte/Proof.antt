@@ -1,5 +1,4 @@
 -- `station::ranges::byte` meets its contract: the same number.
--- Assumes nothing.
 use borrow.Author.Needs.{needs}
 use Rattle.station.proofs.ranges.byte.Statement.{statement}
 use Rattle.station.proofs.ranges.byte.Tie as tie

@@ -1,6 +1,6 @@
 -- `request_ranged` answers whether the unit is in its range and the numbers of the interrogation are.
 use borrow.Author.Tests.{le-leb, lt-leb}
-use Rattle.histories.specs.Calls.{requestRanged}
+use Rattle.station_rules.specs.Calls.{requestRanged}
 use borrow.Author.Needs.{needs}
 use Rattle.station.proofs.ranges.request_ranged.Statement.{statement}
 use Rattle.station.proofs.ranges.request_ranged.Tie as tie

@@ -1,8 +1,7 @@
 -- `station::ranges::target_ranged` meets its contract: each range in turn.
--- Assumes nothing.
 use mathlib.Core.Path.{sym, _∙_}
 use borrow.Author.Tests.{le-leb, lt-leb, not-true, not-false}
-use Rattle.histories.specs.Calls.{targetRanged}
+use Rattle.station_rules.specs.Calls.{targetRanged}
 use borrow.Author.Needs.{needs}
 use Rattle.station.proofs.ranges.target_ranged.Statement.{statement}
 use Rattle.station.proofs.ranges.target_ranged.Tie as tie

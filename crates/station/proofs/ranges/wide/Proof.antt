@@ -1,5 +1,4 @@
 -- `station::ranges::wide` meets its contract: the same number.
--- Assumes nothing.
 use borrow.Author.Needs.{needs}
 use Rattle.station.proofs.ranges.wide.Statement.{statement}
 use Rattle.station.proofs.ranges.wide.Tie as tie

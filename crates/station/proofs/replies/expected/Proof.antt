@@ -1,9 +1,8 @@
 -- `station::replies::expected` meets its contract: by what the request draws.
--- Assumes nothing.
 use mathlib.Core.Path.{_≡_, sym, ap, _∙_}
-use Rattle.fields.specs.Shared.{drawn}
-use Rattle.fields.proofs.Unique.{drawn-is}
-use Rattle.histories.specs.Replies.{formatIn, expected}
+use Rattle.frames_rules.specs.Shared.{drawn}
+use Rattle.frames_rules.proofs.Unique.{drawn-is}
+use Rattle.station_rules.specs.Replies.{formatIn, expected}
 use borrow.Author.Needs.{needs}
 use Rattle.station.proofs.replies.expected.Statement.{statement}
 use Rattle.station.proofs.replies.expected.Tie as tie

@@ -1,8 +1,7 @@
 -- `station::replies::hear` meets its contract: by the target list.
--- Assumes nothing.
 use mathlib.Core.Path.{sym, _∙_}
 use borrow.Author.Tests.{not-true, not-false}
-use Rattle.histories.specs.Replies.{targetsHeard}
+use Rattle.station_rules.specs.Replies.{targetsHeard}
 use borrow.Author.Needs.{needs}
 use Rattle.station.proofs.replies.hear.Statement.{statement}
 use Rattle.station.proofs.replies.hear.Tie as tie

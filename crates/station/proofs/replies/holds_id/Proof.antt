@@ -1,5 +1,4 @@
 -- `station::replies::holds_id` meets its contract: the two formats.
--- Assumes nothing.
 use borrow.Author.Tests.{eq-eqb, ne-eqb}
 use Rattle.station.proofs.replies.holds_id.Statement.{statement}
 use Rattle.station.proofs.replies.holds_id.Tie as tie

@@ -1,5 +1,4 @@
 -- `station::replies::refused` meets its contract: field by field.
--- Assumes nothing.
 use borrow.Author.Needs.{needs}
 use Rattle.station.proofs.replies.refused.Statement.{statement}
 use Rattle.station.proofs.replies.refused.Tie as tie

@@ -1,5 +1,4 @@
 -- `station::replies::said_in` meets its contract: by the format.
--- Assumes nothing.
 use borrow.Author.Needs.{needs}
 use Rattle.station.proofs.replies.said_in.Statement.{statement}
 use Rattle.station.proofs.replies.said_in.Tie as tie

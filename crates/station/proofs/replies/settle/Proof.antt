@@ -1,12 +1,11 @@
 -- `station::replies::settle` meets its contract: by the correction.
--- Assumes nothing.
 use mathlib.Core.Path.{_≡_, sym, ap, subst, _∙_}
 use Prim.Native.Nat.{ℕ, _<_}
 use lib.ListN.{length}
 use mir.Syntax.{w32}
 use mir.ValLaws.{toZ-ofZ}
-use Rattle.histories.specs.declared.state.Reply.{Reply}
-use Rattle.histories.specs.Replies.{delayOf, told}
+use Rattle.station_rules.specs.declared.state.Reply.{Reply}
+use Rattle.station_rules.specs.Replies.{delayOf, told}
 use Rattle.station.proofs.Trials.{sized-room, sized-least}
 use Rattle.station.proofs.Settling.{settled-refused, settled-taken}
 use borrow.Author.Needs.{needs}

@@ -1,5 +1,5 @@
 -- `emptied` keeps the slots and counts none of them.
-use Rattle.histories.specs.State.{emptied}
+use Rattle.station_rules.specs.State.{emptied}
 use borrow.Author.Needs.{needs}
 use Rattle.station.proofs.setting.emptied.Statement.{statement}
 use Rattle.station.proofs.setting.emptied.Tie as tie

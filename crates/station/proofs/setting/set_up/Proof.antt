@@ -1,7 +1,6 @@
 -- `station::setting::set_up` meets its contract: by the planner's judgement.
--- Assumes nothing.
 use borrow.Author.Tests.{eq-eqb, ne-eqb}
-use Rattle.histories.specs.Calls.{setUp}
+use Rattle.station_rules.specs.Calls.{setUp}
 use borrow.Author.Needs.{needs}
 use Rattle.station.proofs.setting.set_up.Statement.{statement}
 use Rattle.station.proofs.setting.set_up.Tie as tie

@@ -1,5 +1,4 @@
 -- `station::slots::live` meets its contract: the smaller of the two.
--- Assumes nothing.
 use borrow.Author.Needs.{needs}
 use Rattle.station.proofs.slots.live.Statement.{statement}
 use Rattle.station.proofs.slots.live.Tie as tie

@@ -1,5 +1,4 @@
 -- `station::targets::find` meets its contract: a search over the list.
--- Assumes nothing.
 use mathlib.Core.Path.{_≡_}
 use native.Mathlib.Omega.{arith}
 use Prim.Native.Nat.{_-_, _≤_}
@@ -7,7 +6,7 @@ use lib.ListN.{length}
 use borrow.Author.Tests.{eq-eqb, ne-eqb}
 use Rattle.lists.proofs.Front.{length-mapped}
 use Rattle.lists.proofs.Index.{Sought, found, passed, not-found}
-use Rattle.histories.specs.State.{isAt}
+use Rattle.station_rules.specs.State.{isAt}
 use borrow.Author.Needs.{needs}
 use Rattle.station.proofs.targets.find.Statement.{statement}
 use Rattle.station.proofs.targets.find.Tie as tie

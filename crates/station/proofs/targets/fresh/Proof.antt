@@ -1,5 +1,4 @@
 -- `station::targets::fresh` meets its contract: field by field.
--- Assumes nothing.
 use borrow.Author.Needs.{needs}
 use Rattle.station.proofs.targets.fresh.Statement.{statement}
 use Rattle.station.proofs.targets.fresh.Tie as tie

@@ -1,10 +1,9 @@
 -- `station::targets::in_list` meets its contract: the place found against the count.
--- Assumes nothing.
 use mathlib.Core.Path.{_≡_}
 use native.Mathlib.Omega.{arith}
 use lib.ListN.{length, length-take}
 use Rattle.lists.proofs.Front.{length-mapped}
-use Rattle.histories.specs.State.{targetsOf}
+use Rattle.station_rules.specs.State.{targetsOf}
 use borrow.Author.Needs.{needs}
 use Rattle.station.proofs.targets.in_list.Statement.{statement}
 use Rattle.station.proofs.targets.in_list.Tie as tie

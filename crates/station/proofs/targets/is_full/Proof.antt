@@ -1,11 +1,10 @@
 -- `station::targets::is_full` meets its contract: the count against the slots.
--- Assumes nothing.
 use mathlib.Core.Path.{_≡_, ap}
 use native.Mathlib.Omega.{arith}
 use lib.Dec.{leb}
 use lib.ListN.{length, length-take}
 use Rattle.lists.proofs.Front.{length-mapped}
-use Rattle.histories.specs.State.{targetsOf}
+use Rattle.station_rules.specs.State.{targetsOf}
 use borrow.Author.Needs.{needs}
 use Rattle.station.proofs.targets.is_full.Statement.{statement}
 use Rattle.station.proofs.targets.is_full.Tie as tie

@@ -1,5 +1,4 @@
 -- `station::targets::push` meets its contract: one more after those held.
--- Assumes nothing.
 use mathlib.Core.Path.{_≡_}
 use mathlib.Core.List.{[], _∷_, _++_}
 use native.Mathlib.Omega.{arith}

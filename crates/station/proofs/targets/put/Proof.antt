@@ -1,12 +1,11 @@
 -- `station::targets::put` meets its contract: written at the place found.
--- Assumes nothing.
 use mathlib.Core.Path.{_≡_}
 use native.Mathlib.Omega.{arith}
 use Prim.Native.Nat.{_<_}
 use lib.ListN.{length, set, length-set, length-take}
 use Rattle.lists.proofs.Front.{length-mapped}
 use Rattle.lists.proofs.Over.{front-set}
-use Rattle.histories.specs.State.{targetsOf, placeIn}
+use Rattle.station_rules.specs.State.{targetsOf, placeIn}
 use Rattle.station.proofs.Held.{place-held, place-within}
 use borrow.Author.Needs.{needs}
 use Rattle.station.proofs.targets.put.Statement.{statement}

@@ -1,5 +1,4 @@
 -- `station::targets::target_at` meets its contract: a read at the place found.
--- Assumes nothing.
 use mathlib.Core.Path.{_≡_, sym, _∙_}
 use native.Mathlib.Nat.{min-le-left}
 use native.Mathlib.Omega.{arith}
@@ -7,7 +6,7 @@ use Prim.Native.Nat.{_≤_}
 use lib.ListN.{length, length-take, List·getD-eq-default}
 use lib.Seq.{getD-take}
 use Rattle.lists.proofs.Front.{length-mapped}
-use Rattle.histories.specs.State.{targetsOf, placeIn, fresh}
+use Rattle.station_rules.specs.State.{targetsOf, placeIn, fresh}
 use borrow.Author.Needs.{needs}
 use Rattle.station.proofs.targets.target_at.Statement.{statement}
 use Rattle.station.proofs.targets.target_at.Tie as tie

@@ -1,5 +1,4 @@
 -- `station::targets::without` meets its contract: a filter in place.
--- Assumes nothing.
 use mathlib.Core.Path.{_≡_, ap}
 use mathlib.Core.Bool.{not}
 use mathlib.Core.Logic.{⊎-elim}

@@ -1,5 +1,4 @@
 -- `station::waiting::count_of` meets its contract: a count over the list.
--- Assumes nothing.
 use mathlib.Core.Path.{_≡_}
 use mathlib.Core.Logic.{⊎-elim}
 use native.Mathlib.Omega.{arith}
@@ -8,7 +7,7 @@ use lib.ListN.{length}
 use borrow.Author.Tests.{eq-eqb, ne-eqb}
 use Rattle.lists.proofs.Front.{length-mapped}
 use Rattle.lists.proofs.Count.{Counted, counted, uncounted, all-counted}
-use Rattle.histories.specs.State.{isOf}
+use Rattle.station_rules.specs.State.{isOf}
 use borrow.Author.Needs.{needs}
 use Rattle.station.proofs.waiting.count_of.Statement.{statement}
 use Rattle.station.proofs.waiting.count_of.Tie as tie

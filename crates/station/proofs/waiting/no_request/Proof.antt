@@ -1,5 +1,4 @@
 -- `station::waiting::no_request` meets its contract: field by field.
--- Assumes nothing.
 use borrow.Author.Needs.{needs}
 use Rattle.station.proofs.waiting.no_request.Statement.{statement}
 use Rattle.station.proofs.waiting.no_request.Tie as tie

@@ -1,5 +1,4 @@
 -- `station::waiting::push` meets its contract: one more after those that wait.
--- Assumes nothing.
 use mathlib.Core.Path.{_≡_}
 use mathlib.Core.List.{[], _∷_, _++_}
 use native.Mathlib.Omega.{arith}

@@ -1,13 +1,12 @@
 -- `station::waiting::unit_full` meets its contract: the unit's count, then the slots.
--- Assumes nothing.
 use mathlib.Core.Path.{_≡_, ap}
 use native.Mathlib.Omega.{arith}
 use borrow.Author.Tests.{le-leb, lt-leb}
 use lib.Dec.{leb}
 use lib.ListN.{length, length-take}
 use Rattle.lists.proofs.Front.{length-mapped}
-use Rattle.histories.specs.State.{requestsOf}
-use Rattle.histories.specs.Calls.{unitFull}
+use Rattle.station_rules.specs.State.{requestsOf}
+use Rattle.station_rules.specs.Calls.{unitFull}
 use borrow.Author.Needs.{needs}
 use Rattle.station.proofs.waiting.unit_full.Statement.{statement}
 use Rattle.station.proofs.waiting.unit_full.Tie as tie

@@ -1,10 +1,9 @@
 -- `station::windows::delay` meets its contract: a start within the window is small.
--- Assumes nothing.
 use mathlib.Core.Path.{_∙_}
 use native.Mathlib.Omega.{arith}
 use Prim.Native.Nat.{_+_, _^_, _<_}
 use Rattle.lists.proofs.Signed.{minus-holds, minus-kept}
-use Rattle.plans.specs.Exchange.{delay}
+use Rattle.planner_rules.specs.Exchange.{delay}
 use Rattle.station.proofs.Ticks.{before-end}
 use borrow.Author.Needs.{needs}
 use Rattle.station.proofs.windows.delay.Statement.{statement}

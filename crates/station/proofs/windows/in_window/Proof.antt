@@ -1,5 +1,4 @@
 -- `station::windows::in_window` meets its contract: both ends of the window.
--- Assumes nothing.
 use Rattle.station.proofs.Ticks.{early, not-early}
 use borrow.Author.Needs.{needs}
 use Rattle.station.proofs.windows.in_window.Statement.{statement}

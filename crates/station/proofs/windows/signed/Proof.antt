@@ -1,5 +1,4 @@
 -- `station::windows::signed` meets its contract: both numbers are far below 2^31.
--- Assumes nothing.
 use native.Mathlib.Omega.{arith}
 use Rattle.lists.proofs.Signed.{minus-fits, minus-is}
 use borrow.Author.Needs.{needs}

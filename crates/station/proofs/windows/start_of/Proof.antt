@@ -1,5 +1,4 @@
 -- `station::windows::start_of` meets its contract: the difference on a counter of 32 bits.
--- Assumes nothing.
 use Rattle.station.proofs.Ticks.{start-is}
 use borrow.Author.Needs.{needs}
 use Rattle.station.proofs.windows.start_of.Statement.{statement}

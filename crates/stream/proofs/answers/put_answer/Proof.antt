@@ -1,5 +1,5 @@
 -- `put_answer` lays three numbers.
-use Rattle.transcripts.specs.Lines.{line, answerLine}
+use Rattle.stream_rules.specs.Lines.{line, answerLine}
 use Rattle.stream.proofs.Lengths.{within-then}
 use borrow.Author.Needs.{needs}
 use Rattle.stream.proofs.answers.put_answer.Statement.{statement}

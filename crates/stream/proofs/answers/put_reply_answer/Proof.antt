@@ -2,7 +2,7 @@
 use native.Mathlib.Omega.{arith}
 use mir.Syntax.{w32}
 use mir.ValLaws.{toZ-ofZ}
-use Rattle.transcripts.specs.Lines.{line, replyLine}
+use Rattle.stream_rules.specs.Lines.{line, replyLine}
 use Rattle.stream.proofs.Lengths.{within, within-then, signed-short}
 use borrow.Author.Needs.{needs}
 use Rattle.stream.proofs.answers.put_reply_answer.Statement.{statement}

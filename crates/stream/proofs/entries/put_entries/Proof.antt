@@ -4,8 +4,8 @@ use native.Mathlib.Omega.{arith}
 use mathlib.Core.Path.{_≡_}
 use lib.ListN.{length, take, drop}
 use Rattle.lists.proofs.Front.{length-mapped}
-use Rattle.letters.proofs.Laid.{Still, put-inside, put-out, still-first, still-next, still-end}
-use Rattle.transcripts.specs.Lines.{entryLines}
+use Rattle.text_rules.proofs.Laid.{Still, put-inside, put-out, still-first, still-next, still-end}
+use Rattle.stream_rules.specs.Lines.{entryLines}
 use Rattle.stream.proofs.PlanLines.{entries-more, entries-none}
 use borrow.Author.Needs.{needs}
 use Rattle.stream.proofs.entries.put_entries.Statement.{statement}

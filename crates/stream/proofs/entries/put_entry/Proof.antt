@@ -16,11 +16,11 @@ add-from c = search needs
 add-to : tie.Need-add-to
 add-to c = search needs
 
-cast-put-six : tie.Need-cast-put-six
-cast-put-six c = search needs
+cast-put-numbers : tie.Need-cast-put-numbers
+cast-put-numbers c = search needs
 
-put-six-requires : tie.Need-put-six-requires
-put-six-requires c κs = search needs
+put-numbers-requires : tie.Need-put-numbers-requires
+put-numbers-requires c κs = search needs
 
 same-length : tie.Need-same-length
 same-length c = search needs
@@ -28,7 +28,7 @@ same-length c = search needs
 returns : tie.Need-returns
 returns c =
     let a = c .before .before .before .before .before .before .before .before .before .before .before .args in
-    entry-put (a .k) (a .e) (c .before .before .before .before .before .before .before .before .of .ensures .0) (c .before .before .put-six .ensures)
+    entry-put (a .k) (a .e) (c .before .before .before .before .before .before .before .before .of .ensures .0) (c .before .before .put-numbers .ensures)
 
 pub put-entry-spec : {M : Type 1} → statement M
 put-entry-spec =
@@ -38,7 +38,7 @@ put-entry-spec =
     cast-start
     add-from
     add-to
-    cast-put-six
-    put-six-requires
+    cast-put-numbers
+    put-numbers-requires
     same-length
     returns)

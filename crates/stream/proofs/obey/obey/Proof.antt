@@ -1,6 +1,6 @@
 -- `obey` does what the kind asks.
 use mathlib.Core.Logic.{⊎-elim, inl, inr}
-use Rattle.transcripts.specs.Step.{obeyed}
+use Rattle.stream_rules.specs.Step.{obeyed}
 use Rattle.stream.proofs.Steps.{Rest, did-of, of-kind, of-reply, of-none}
 use borrow.Author.Needs.{needs}
 use Rattle.stream.proofs.obey.obey.Statement.{statement}
@@ -15,8 +15,8 @@ rest c =
 obey-setup-requires : tie.Need-obey-setup-requires
 obey-setup-requires c κs = search needs
 
-obey-new-requires : tie.Need-obey-new-requires
-obey-new-requires c κs = search needs
+obey-new-target-requires : tie.Need-obey-new-target-requires
+obey-new-target-requires c κs = search needs
 
 obey-remove-requires : tie.Need-obey-remove-requires
 obey-remove-requires c κs = search needs
@@ -51,7 +51,7 @@ same-length-2 c = search needs
 
 returns-2 : tie.Need-returns-2
 unfolding obeyed
-returns-2 c = let x = c .before .before in did-of (of-kind _ _ _ _ (x .before .before .match .keys2)) (x .obey-new .ensures)
+returns-2 c = let x = c .before .before in did-of (of-kind _ _ _ _ (x .before .before .match .keys2)) (x .obey-new-target .ensures)
 
 same-length-3 : tie.Need-same-length-3
 same-length-3 c = search needs
@@ -111,7 +111,7 @@ obey-spec =
     tie.close
     (tie.spec
     obey-setup-requires
-    obey-new-requires
+    obey-new-target-requires
     obey-remove-requires
     obey-request-requires
     obey-plan-requires

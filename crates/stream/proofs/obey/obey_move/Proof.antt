@@ -1,8 +1,8 @@
 -- `obey_move` moves the target of the body.
 use mathlib.Core.Path.{ap, _∙_}
-use Rattle.records.specs.declared.fields.Edges.{Edges}
-use Rattle.histories.specs.Calls.{moved}
-use Rattle.transcripts.specs.Step.{answered}
+use Rattle.reader_rules.specs.declared.fields.Edges.{Edges}
+use Rattle.station_rules.specs.Calls.{moved}
+use Rattle.stream_rules.specs.Step.{answered}
 use Rattle.stream.proofs.Steps.{did-of}
 use borrow.Author.Needs.{needs}
 use Rattle.stream.proofs.obey.obey_move.Statement.{statement}

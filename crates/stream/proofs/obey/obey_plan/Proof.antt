@@ -1,8 +1,8 @@
 -- `obey_plan` plans with the tag of the body, and lays the answer and the entries.
 use native.Mathlib.Omega.{arith}
 use mathlib.Core.Path.{refl, ap, _∙_}
-use Rattle.histories.specs.Planning.{nextPlan}
-use Rattle.transcripts.specs.Step.{planned}
+use Rattle.station_rules.specs.Planning.{nextPlan}
+use Rattle.stream_rules.specs.Step.{plannedTo}
 use Rattle.stream.proofs.Lengths.{within-then}
 use Rattle.stream.proofs.Steps.{did-of, did-lines}
 use borrow.Author.Needs.{needs}
@@ -26,7 +26,7 @@ same-length c = search needs
 
 returns : tie.Need-returns
 returns c =
-    did-of (ap (planned _) (c .before .before .before .before .before .before .before .before .before .before .plan-period .ensures ∙ ap (nextPlan _) (c .before .before .before .before .before .before .before .before .before .before .before .tag-at .ensures)))
+    did-of (ap (plannedTo _) (c .before .before .before .before .before .before .before .before .before .before .plan-period .ensures ∙ ap (nextPlan _) (c .before .before .before .before .before .before .before .before .before .before .before .tag-at .ensures)))
     (did-lines 9252 (omega arith) refl refl (within-then (c .before .before .before .before .before .before .before .before .put-answer .ensures) (c .before .before .put-entries .ensures)))
 
 pub obey-plan-spec : {M : Type 1} → statement M

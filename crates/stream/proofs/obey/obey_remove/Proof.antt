@@ -1,7 +1,7 @@
 -- `obey_remove` removes the target of the body.
 use mathlib.Core.Path.{ap, _∙_}
-use Rattle.histories.specs.Calls.{removed}
-use Rattle.transcripts.specs.Step.{answered}
+use Rattle.station_rules.specs.Calls.{removed}
+use Rattle.stream_rules.specs.Step.{answered}
 use Rattle.stream.proofs.Steps.{did-of}
 use borrow.Author.Needs.{needs}
 use Rattle.stream.proofs.obey.obey_remove.Statement.{statement}

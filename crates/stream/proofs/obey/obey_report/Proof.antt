@@ -1,8 +1,8 @@
 -- `obey_report` reports on the address of the body, and lays the answer and, when taken, what was heard.
 use native.Mathlib.Omega.{arith}
 use mathlib.Core.Path.{refl, ap, _∙_}
-use Rattle.histories.specs.Calls.{reported}
-use Rattle.transcripts.specs.Step.{reportedTo}
+use Rattle.station_rules.specs.Calls.{reported}
+use Rattle.stream_rules.specs.Step.{reportedTo}
 use Rattle.stream.proofs.Lengths.{within-then}
 use Rattle.stream.proofs.Steps.{did-of, did-lines, report-refused, report-taken}
 use borrow.Author.Needs.{needs}

@@ -3,9 +3,9 @@ use Prim.Native.Nat.{_≤_}
 use native.Mathlib.Omega.{arith}
 use mathlib.Core.Path.{ap, _∙_}
 use lib.ListN.{length, take, replicate, length-take}
-use Rattle.records.specs.declared.fields.Reply.{Reply}
-use Rattle.histories.specs.Replies.{replied}
-use Rattle.transcripts.specs.Step.{partOf, repliedTo, replyTo}
+use Rattle.reader_rules.specs.declared.fields.Reply.{Reply}
+use Rattle.station_rules.specs.Replies.{replied}
+use Rattle.stream_rules.specs.Step.{partOf, repliedTo, replyTo}
 use Rattle.stream.proofs.Steps.{did-of, in-order, front-zeros}
 use borrow.Author.Needs.{needs}
 use Rattle.stream.proofs.replies.obey_reply.Statement.{statement}

@@ -4,7 +4,7 @@ use mathlib.Core.Path.{refl}
 use mathlib.Core.List.{[]}
 use mir.Syntax.{w32}
 use mir.ValLaws.{toZ-ofZ}
-use Rattle.histories.specs.Replies.{told}
+use Rattle.station_rules.specs.Replies.{told}
 use Rattle.stream.proofs.Steps.{did-lines, reply-refused, reply-taken}
 use borrow.Author.Needs.{needs}
 use Rattle.stream.proofs.replies.put_replied.Statement.{statement}

@@ -1,6 +1,6 @@
 -- `put_dash` lays the dash and the byte behind it.
 use native.Mathlib.Omega.{arith}
-use Rattle.letters.proofs.Laid.{put-then}
+use Rattle.text_rules.proofs.Laid.{put-then}
 use Rattle.stream.proofs.Lengths.{within}
 use borrow.Author.Needs.{needs}
 use Rattle.stream.proofs.report.put_dash.Statement.{statement}

@@ -1,8 +1,8 @@
 -- `put_report` lays value and age of AC and of ID.
 use mathlib.Core.Path.{_≡_}
 use mathlib.Core.List.{_++_, append-assoc}
-use Rattle.histories.specs.declared.state.Value.{Value}
-use Rattle.transcripts.specs.Lines.{followed, line, valueWord, ageWord, reportLine}
+use Rattle.station_rules.specs.declared.state.Value.{Value}
+use Rattle.stream_rules.specs.Lines.{followed, line, valueWord, ageWord, reportLine}
 use Rattle.stream.proofs.Lengths.{within-then, within-of}
 use borrow.Author.Needs.{needs}
 use Rattle.stream.proofs.report.put_report.Statement.{statement}

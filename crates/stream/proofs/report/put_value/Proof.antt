@@ -1,5 +1,5 @@
 -- `put_value` lays value and age, or two dashes.
-use Rattle.transcripts.specs.Lines.{valueWord, ageWord}
+use Rattle.stream_rules.specs.Lines.{valueWord, ageWord}
 use Rattle.stream.proofs.Lengths.{within-then}
 use borrow.Author.Needs.{needs}
 use Rattle.stream.proofs.report.put_value.Statement.{statement}

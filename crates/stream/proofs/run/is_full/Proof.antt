@@ -1,5 +1,5 @@
 -- `is_full` compares what is held with the room that one record more may take.
-use Rattle.transcripts.specs.Run.{isFull}
+use Rattle.stream_rules.specs.Run.{isFull}
 use borrow.Author.Needs.{needs}
 use Rattle.stream.proofs.run.is_full.Statement.{statement}
 use Rattle.stream.proofs.run.is_full.Tie as tie

@@ -1,7 +1,7 @@
 -- `put_step` judges 16 and 17 before the body, and else obeys the record.
 use mathlib.Core.Path.{_≡_, sym, _∙_}
-use Rattle.records.specs.Records.{recordAt}
-use Rattle.records.proofs.Answers.{found-is}
+use Rattle.reader_rules.specs.Records.{recordAt}
+use Rattle.reader_rules.proofs.Answers.{found-is}
 use Rattle.stream.proofs.Steps.{step-end, step-unknown, step-cut, step-whole}
 use borrow.Author.Needs.{needs}
 use Rattle.stream.proofs.step.put_step.Statement.{statement}

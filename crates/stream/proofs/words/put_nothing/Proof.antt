@@ -1,7 +1,7 @@
 -- `put_nothing` lays nothing.
 use mathlib.Core.List.{[]}
 use native.Mathlib.Omega.{arith}
-use Rattle.letters.proofs.Laid.{put-none, put-out}
+use Rattle.text_rules.proofs.Laid.{put-none, put-out}
 use Rattle.stream.proofs.words.put_nothing.Statement.{statement}
 use Rattle.stream.proofs.words.put_nothing.Tie as tie
 

@@ -2,9 +2,9 @@
 use Prim.Native.Nat.{_≤_}
 use native.Mathlib.Omega.{arith}
 use lib.ListN.{length, length-append}
-use Rattle.letters.specs.Put.{decimal}
-use Rattle.letters.proofs.Decimal.{decimal-fits}
-use Rattle.letters.proofs.Laid.{put-then}
+use Rattle.text_rules.specs.Put.{decimal}
+use Rattle.text_rules.proofs.Decimal.{decimal-fits}
+use Rattle.text_rules.proofs.Laid.{put-then}
 use Rattle.stream.proofs.Lengths.{within}
 use borrow.Author.Needs.{needs}
 use Rattle.stream.proofs.words.put_number.Statement.{statement}

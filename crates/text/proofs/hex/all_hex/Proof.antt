@@ -3,7 +3,7 @@ use Prim.Native.Nat.{_-_}
 use mathlib.Core.Path.{_≡_, sym, _∙_}
 use native.Mathlib.Omega.{arith}
 use lib.ListN.{length, drop}
-use Rattle.letters.specs.Hex.{allHex}
+use Rattle.text_rules.specs.Hex.{allHex}
 use Rattle.text.proofs.HexLoops.{hex-passed, hex-stopped, hex-all}
 use borrow.Author.Needs.{needs}
 use Rattle.text.proofs.hex.all_hex.Statement.{statement}

@@ -4,8 +4,8 @@ use native.Mathlib.Omega.{arith}
 use mathlib.Core.Path.{_≡_, refl, sym, _∙_}
 use mathlib.Core.Bool.{true}
 use lib.ListN.{drop}
-use Rattle.letters.specs.Put.{laid}
-use Rattle.letters.specs.Hex.{pairs, allHex}
+use Rattle.text_rules.specs.Put.{laid}
+use Rattle.text_rules.specs.Hex.{pairs, allHex}
 use Rattle.text.proofs.HexLoops.{pair-passed, pair-next, pair-end}
 use borrow.Author.Needs.{needs}
 use Rattle.text.proofs.hex.fill.Statement.{statement}

@@ -2,7 +2,7 @@
 use native.Mathlib.Omega.{arith}
 use mathlib.Core.Path.{sym, _∙_}
 use borrow.Author.Tests.{not-true, not-false}
-use Rattle.letters.proofs.HexRead.{hex-empty, hex-long, hex-odd, hex-even, read-dash, read-not, read-bytes}
+use Rattle.text_rules.proofs.HexRead.{hex-empty, hex-long, hex-odd, hex-even, read-dash, read-not, read-bytes}
 use borrow.Author.Needs.{needs}
 use Rattle.text.proofs.hex.hex_bytes.Statement.{statement}
 use Rattle.text.proofs.hex.hex_bytes.Tie as tie

@@ -1,7 +1,7 @@
 -- What a byte counts: one return for each range.
 use native.Mathlib.Omega.{arith}
-use Rattle.letters.specs.Number.{isDigit}
-use Rattle.letters.specs.Hex.{hexValue}
+use Rattle.text_rules.specs.Number.{isDigit}
+use Rattle.text_rules.specs.Hex.{hexValue}
 use Rattle.text.proofs.Values.{in-range, under, over}
 use borrow.Author.Needs.{needs}
 use Rattle.text.proofs.hex.hex_value.Statement.{statement}

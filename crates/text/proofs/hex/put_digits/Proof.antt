@@ -1,5 +1,5 @@
 -- The digits that the kit makes, put in upper case.
-use Rattle.letters.proofs.Laid.{put-of}
+use Rattle.text_rules.proofs.Laid.{put-of}
 use Rattle.text.proofs.Kit.{hex-of-kit}
 use borrow.Author.Needs.{needs}
 use Rattle.text.proofs.hex.put_digits.Statement.{statement}

@@ -2,8 +2,8 @@
 use Prim.Native.Nat.{_-_, _≤_}
 use native.Mathlib.Omega.{arith}
 use lib.ListN.{length, drop}
-use Rattle.letters.specs.Hex.{hexOf}
-use Rattle.letters.proofs.Laid.{Still, still-first, still-next, still-end, put-out, put-inside}
+use Rattle.text_rules.specs.Hex.{hexOf}
+use Rattle.text_rules.proofs.Laid.{Still, still-first, still-next, still-end, put-out, put-inside}
 use Rattle.text.proofs.HexLoops.{hex-next, hex-end}
 use borrow.Author.Needs.{needs}
 use Rattle.text.proofs.hex.put_hex.Statement.{statement}

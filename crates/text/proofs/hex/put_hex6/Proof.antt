@@ -1,6 +1,6 @@
 -- The six low digits: those above them change none.
-use Rattle.letters.proofs.Laid.{put-of}
-use Rattle.letters.proofs.HexMade.{hex-low}
+use Rattle.text_rules.proofs.Laid.{put-of}
+use Rattle.text_rules.proofs.HexMade.{hex-low}
 use borrow.Author.Needs.{needs}
 use Rattle.text.proofs.hex.put_hex6.Statement.{statement}
 use Rattle.text.proofs.hex.put_hex6.Tie as tie

@@ -3,8 +3,8 @@ use Prim.Native.Nat.{_-_, _≤_}
 use native.Mathlib.Omega.{arith}
 use mathlib.Core.List.{map}
 use lib.ListN.{length, drop}
-use Rattle.letters.specs.Hex.{upperOf}
-use Rattle.letters.proofs.Laid.{Still, still-first, still-next, still-end, put-out, put-inside}
+use Rattle.text_rules.specs.Hex.{upperOf}
+use Rattle.text_rules.proofs.Laid.{Still, still-first, still-next, still-end, put-out, put-inside}
 use Rattle.text.proofs.HexLoops.{upper-next, upper-end}
 use borrow.Author.Needs.{needs}
 use Rattle.text.proofs.hex.put_upper.Statement.{statement}

@@ -1,6 +1,6 @@
 -- A letter raised to upper case.
 use borrow.Author.Tests.{lt-ltb, le-ltb}
-use Rattle.letters.specs.Hex.{upperOf}
+use Rattle.text_rules.specs.Hex.{upperOf}
 use borrow.Author.Needs.{needs}
 use Rattle.text.proofs.hex.upper.Statement.{statement}
 use Rattle.text.proofs.hex.upper.Tie as tie

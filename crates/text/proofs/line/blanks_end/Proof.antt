@@ -3,8 +3,8 @@ use Prim.Native.Nat.{_-_}
 use mathlib.Core.Path.{_≡_, sym, _∙_}
 use borrow.Author.Tests.{not-true, not-false}
 use lib.ListN.{length}
-use Rattle.letters.specs.Line.{blank, runEnd}
-use Rattle.letters.proofs.Runs.{run-more, run-stop, run-none}
+use Rattle.text_rules.specs.Line.{blank, runEnd}
+use Rattle.text_rules.proofs.Runs.{run-more, run-stop, run-none}
 use borrow.Author.Needs.{needs}
 use Rattle.text.proofs.line.blanks_end.Statement.{statement}
 use Rattle.text.proofs.line.blanks_end.Tie as tie

@@ -1,6 +1,6 @@
 -- A byte is a blank: each of the three tests.
 use borrow.Author.Tests.{ne-eqb}
-use Rattle.letters.specs.Line.{blank}
+use Rattle.text_rules.specs.Line.{blank}
 use Rattle.text.proofs.line.is_blank.Statement.{statement}
 use Rattle.text.proofs.line.is_blank.Tie as tie
 

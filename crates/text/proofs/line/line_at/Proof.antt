@@ -1,5 +1,5 @@
 -- `line_at` holds the line up to its newline, or nothing at the input's end.
-use Rattle.letters.proofs.Lines.{held-from, held-none}
+use Rattle.text_rules.proofs.Lines.{held-from, held-none}
 use borrow.Author.Needs.{needs}
 use Rattle.text.proofs.line.line_at.Statement.{statement}
 use Rattle.text.proofs.line.line_at.Tie as tie

@@ -2,9 +2,9 @@
 use Prim.Native.Nat.{_-_}
 use mathlib.Core.Path.{_≡_, sym, _∙_}
 use lib.ListN.{length}
-use Rattle.letters.specs.Line.{inLine, runEnd, lineEnd}
-use Rattle.letters.proofs.Lines.{line-stops, line-goes, line-to}
-use Rattle.letters.proofs.Runs.{run-more, run-stop, run-none}
+use Rattle.text_rules.specs.Line.{inLine, runEnd, lineEnd}
+use Rattle.text_rules.proofs.Lines.{line-stops, line-goes, line-to}
+use Rattle.text_rules.proofs.Runs.{run-more, run-stop, run-none}
 use borrow.Author.Needs.{needs}
 use Rattle.text.proofs.line.line_end.Statement.{statement}
 use Rattle.text.proofs.line.line_end.Tie as tie

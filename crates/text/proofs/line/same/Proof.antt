@@ -1,5 +1,5 @@
 -- The kit's comparison, as the definition's test.
-use Rattle.letters.proofs.Words.{one-test, same-true, same-of}
+use Rattle.text_rules.proofs.Words.{one-test, same-true, same-of}
 use borrow.Author.Needs.{needs}
 use Rattle.text.proofs.line.same.Statement.{statement}
 use Rattle.text.proofs.line.same.Tie as tie

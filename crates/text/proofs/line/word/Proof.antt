@@ -1,6 +1,6 @@
 -- The next word: past the blanks, and to the next blank.
-use Rattle.letters.specs.Line.{wordAt}
-use Rattle.letters.proofs.Words.{next-word}
+use Rattle.text_rules.specs.Line.{wordAt}
+use Rattle.text_rules.proofs.Words.{next-word}
 use borrow.Author.Needs.{needs}
 use Rattle.text.proofs.line.word.Statement.{statement}
 use Rattle.text.proofs.line.word.Tie as tie

@@ -2,10 +2,10 @@
 use Prim.Native.Nat.{_-_}
 use mathlib.Core.Path.{_≡_, sym, ap, _∙_}
 use lib.ListN.{length}
-use Rattle.letters.specs.Line.{inWord, runEnd}
+use Rattle.text_rules.specs.Line.{inWord, runEnd}
 use mathlib.Core.Bool.{not}
-use Rattle.letters.proofs.Words.{in-word}
-use Rattle.letters.proofs.Runs.{run-more, run-stop, run-none}
+use Rattle.text_rules.proofs.Words.{in-word}
+use Rattle.text_rules.proofs.Runs.{run-more, run-stop, run-none}
 use borrow.Author.Needs.{needs}
 use Rattle.text.proofs.line.word_end.Statement.{statement}
 use Rattle.text.proofs.line.word_end.Tie as tie

@@ -3,7 +3,7 @@ use Prim.Native.Nat.{_<_, _+_, _-_}
 use native.Mathlib.Omega.{arith}
 use mathlib.Core.Path.{_≡_, sym, _∙_}
 use lib.ListN.{length, drop}
-use Rattle.letters.specs.Number.{numberIn}
+use Rattle.text_rules.specs.Number.{numberIn}
 use Rattle.text.proofs.Values.{judged, number-none, number-long, number-judged, judged-digit, judged-low, judged-high, judged-big, judged-end}
 use borrow.Author.Needs.{needs}
 use Rattle.text.proofs.numbers.number.Statement.{statement}

@@ -1,5 +1,5 @@
 -- One byte: it is written where it stands in the buffer.
-use Rattle.letters.proofs.Laid.{put-one, put-out}
+use Rattle.text_rules.proofs.Laid.{put-one, put-out}
 use borrow.Author.Needs.{needs}
 use Rattle.text.proofs.put.put_byte.Statement.{statement}
 use Rattle.text.proofs.put.put_byte.Tie as tie

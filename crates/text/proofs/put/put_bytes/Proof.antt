@@ -3,8 +3,8 @@ use Prim.Native.Nat.{_≤_, _-_}
 use native.Mathlib.Omega.{arith}
 use lib.ListN.{length, take}
 use lib.Seq.{take-all}
-use Rattle.letters.specs.Put.{Put}
-use Rattle.letters.proofs.Laid.{put-none, put-out, put-then, put-same, front-more}
+use Rattle.text_rules.specs.Put.{Put}
+use Rattle.text_rules.proofs.Laid.{put-none, put-out, put-then, put-same, front-more}
 use borrow.Author.Needs.{needs}
 use Rattle.text.proofs.put.put_bytes.Statement.{statement}
 use Rattle.text.proofs.put.put_bytes.Tie as tie

@@ -1,6 +1,6 @@
 -- The digits that the kit makes, put as bytes.
 use mathlib.Core.Path.{_∙_}
-use Rattle.letters.proofs.Laid.{put-of}
+use Rattle.text_rules.proofs.Laid.{put-of}
 use Rattle.text.proofs.Kit.{decimal-of-kit}
 use borrow.Author.Needs.{needs}
 use Rattle.text.proofs.put.put_decimal.Statement.{statement}

@@ -1,5 +1,5 @@
 -- A minus sign, and the number after it.
-use Rattle.letters.proofs.Laid.{put-then}
+use Rattle.text_rules.proofs.Laid.{put-then}
 use borrow.Author.Needs.{needs}
 use Rattle.text.proofs.put.put_minus.Statement.{statement}
 use Rattle.text.proofs.put.put_minus.Tie as tie

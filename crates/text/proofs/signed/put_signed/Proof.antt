@@ -6,7 +6,7 @@ use lib.IntN.{pos, negsuc}
 use mir.Syntax.{w32}
 use mir.ValLaws.{toZ-ofZ}
 use borrow.Author.Needs.{needs}
-use Rattle.letters.specs.Signed.{signedDecimal}
+use Rattle.text_rules.specs.Signed.{signedDecimal}
 use Rattle.text.proofs.Sizes.{negative, positive, plus-holds, less-holds, less-is, unsigned}
 use Rattle.text.proofs.signed.put_signed.Statement.{statement}
 use Rattle.text.proofs.signed.put_signed.Tie as tie

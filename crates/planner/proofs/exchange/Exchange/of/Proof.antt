@@ -1,6 +1,6 @@
 -- `Exchange::of` is the exchange of a request.
 use borrow.Author.Tests.{le-leb, lt-leb}
-use Rattle.plans.specs.Exchange.{sentFor}
+use Rattle.planner_rules.specs.Exchange.{sentFor}
 use borrow.Author.Needs.{needs}
 use Rattle.planner.proofs.exchange.Exchange.of.Statement.{statement}
 use Rattle.planner.proofs.exchange.Exchange.of.Tie as tie

@@ -1,7 +1,7 @@
 -- `Exchange::reply` is the reply's length by RR.
 use native.Mathlib.Omega.{arith}
 use borrow.Author.Tests.{le-leb, lt-leb}
-use Rattle.plans.specs.Exchange.{replyFor}
+use Rattle.planner_rules.specs.Exchange.{replyFor}
 use Rattle.planner.proofs.exchange.Exchange.reply.Statement.{statement}
 use Rattle.planner.proofs.exchange.Exchange.reply.Tie as tie
 

@@ -1,9 +1,0 @@
--- The 8,192 codes, counted by their forms.
-use mathlib.Core.Path.{refl}
-use Rattle.lists.specs.Lists.{countBelow}
-use Rattle.altitude_code.specs.Code.{group, formOf}
-use Rattle.altitude_code.specs.Claims.{Census}
-
-pub census : Census
-unfolding Census countBelow formOf group
-census = refl

@@ -1,0 +1,14 @@
+// The line `help`.
+ghost use Rattle.text_rules.specs.Put.{Put};
+ghost use Rattle.console_rules.specs.Help.{helpText};
+
+// The words of the console, one line each.
+pub(crate) fn put_help(out: &mut [u8]) -> usize
+    ensures { λ r. ⌜ Put helpText 0 (now (out .entry)) (now (out .exit)) r ⌝ }
+{
+    text::put_bytes(
+        out,
+        0,
+        b"remainder HEX\noverlay NUMBER\ncorrect HEX MARKS OVERLAY LIMIT\nbuild UF PC RR DI SD MA ADDRESS\nallcall PR IC CL\nup HEX\ndown HEX\ncode HEX CL IC PERMIT\nfeet AC\nmodel ADDRESS AC ID FS CA\nqueue HEX\nsend TIME DRAW HEX\nstate\n",
+    )
+}

@@ -1,0 +1,19 @@
+-- `put_unread` lays the mark of a line that cannot be read.
+use borrow.Author.Needs.{needs}
+use Rattle.console_plain.proofs.answers.put_unread.Statement.{statement}
+use Rattle.console_plain.proofs.answers.put_unread.Tie as tie
+
+slice-aggregate-put-bytes : tie.Need-slice-aggregate-put-bytes
+slice-aggregate-put-bytes c = search needs
+
+put-bytes-requires : tie.Need-put-bytes-requires
+put-bytes-requires c κs = search needs
+
+same-length : tie.Need-same-length
+same-length c = search needs
+
+returns : tie.Need-returns
+returns c = c .before .before .put-bytes .ensures
+
+pub put-unread-spec : {M : Type 1} → statement M
+put-unread-spec = tie.close (tie.spec slice-aggregate-put-bytes put-bytes-requires same-length returns)

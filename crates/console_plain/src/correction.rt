@@ -1,0 +1,72 @@
+// The line `correct HEX MARKS OVERLAY LIMIT`.
+ghost use mathlib.Core.Path.{_≡_};
+ghost use lib.ListN.{length, replicate};
+ghost use Rattle.text_rules.specs.Put.{Put};
+ghost use Rattle.text_rules.specs.Line.{wordsOf};
+ghost use Rattle.parity_rules.specs.Answers.{said};
+ghost use Rattle.console_rules.specs.Parity.{correctedText, fixedText, correctText};
+use crate::answers::put_refusal;
+use crate::answers::put_unread;
+use crate::words::bytes_at;
+use crate::words::number_at;
+use parity::Fix;
+use text_rules::Hex;
+use text_rules::Number;
+
+// The corrected message and its flips, or the refusal.
+fn put_corrected(out: &mut [u8], f: Fix, fixed: &[u8]) -> usize
+    ensures { λ r. ⌜ Put (correctedText (said f (now (fixed .entry)))) 0 (now (out .entry)) (now (out .exit)) r ⌝ }
+{
+    match f {
+        Fix::Flips(n) => {
+            let value = text::put_bytes(out, 0, b"0 ");
+            let gap = text::put_hex(out, value, fixed);
+            let flips = text::put_byte(out, gap, 32);
+            let end = text::put_decimal(out, flips, n);
+            text::put_byte(out, end, 10)
+        }
+        Fix::Length => put_refusal(out, 1),
+        Fix::Range => put_refusal(out, 2),
+        Fix::Marks => put_refusal(out, 11),
+        Fix::NoMatch => put_refusal(out, 12),
+        Fix::Doubt => put_refusal(out, 13),
+    }
+}
+
+// The correction of a message into a buffer of zeros that is as long.
+fn put_fixed(
+    out: &mut [u8],
+    msg: &[u8],
+    marks: &[u8],
+    overlay: u32,
+    limit: u32,
+    fixed: &mut [u8],
+) -> usize
+    requires { ⌜ now fixed ≡ replicate (length (now msg)) 0 ⌝ }
+    ensures { λ r. ⌜ Put (fixedText (now (msg .entry)) (now (marks .entry)) overlay limit) 0 (now (out .entry)) (now (out .exit)) r ⌝ }
+{
+    let f = parity::correct(msg, marks, overlay, limit, fixed);
+    put_corrected(out, f, fixed)
+}
+
+// A message, its marks, an overlay and a limit.
+pub fn put_correct(line: &[u8], out: &mut [u8]) -> usize
+    ensures { λ r. ⌜ Put (correctText (wordsOf (now (line .entry)))) 0 (now (out .entry)) (now (out .exit)) r ⌝ }
+{
+    let mut msg = [0u8; 32];
+    let Hex::Bytes(n) = bytes_at(line, 1, &mut msg) else {
+        return put_unread(out);
+    };
+    let mut marks = [0u8; 32];
+    let Hex::Bytes(m) = bytes_at(line, 2, &mut marks) else {
+        return put_unread(out);
+    };
+    let Number::Is(overlay) = number_at(line, 3) else {
+        return put_unread(out);
+    };
+    let Number::Is(limit) = number_at(line, 4) else {
+        return put_unread(out);
+    };
+    let mut fixed = [0u8; 32];
+    put_fixed(out, &msg[..n], &marks[..m], overlay, limit, &mut fixed[..n])
+}

@@ -1,0 +1,120 @@
+-- Lines of the console beside what they print, computed: the examples of document 01, published frames, and frames by the bit numbers of document 01.
+use Prim.Native.String.{String}
+use mathlib.Core.Path.{_≡_, refl}
+use mathlib.Core.List.{[], _∷_}
+use mathlib.Core.Option.{some, none}
+use Rattle.lists.specs.Lists.{filter}
+use Rattle.text_rules.specs.Plain.{plain}
+use Rattle.text_rules.specs.Put.{decimalIn, decimal}
+use Rattle.text_rules.specs.Signed.{signedDecimal}
+use Rattle.text_rules.specs.Line.{blank, grown, parts, full, wordsOf, sameAs}
+use Rattle.text_rules.specs.Number.{between, isDigit, allDigits, valueAfter, numberIn}
+use Rattle.text_rules.specs.Hex.{hexDigit, hexIn, hexOf, hexValue, allHex, pairs, isHex, bytesIn}
+use Rattle.text_rules.specs.declared.answer.Number.the-variants.{Is, Not}
+use Rattle.parity_rules.specs.Messages.{bits}
+use Rattle.parity_rules.specs.Division.{shiftIn, divide, remainderOf, syndrome}
+use Rattle.parity_rules.specs.Overlays.{lowBits, times, overlayOf}
+use Rattle.parity_rules.specs.Correction.{sizeOf, subsets, xorOf, matching, flipped, correction}
+use Rattle.frames_rules.specs.Fields.{headOf, midOf, selectiveHead, allCallHead}
+use Rattle.frames_rules.specs.Frames.{front, sealed}
+use Rattle.frames_rules.specs.Building.{selectiveRanged, allCallRanged, selective, allCall, building, allCalling}
+use Rattle.frames_rules.specs.Reading.{readAs, selectiveRead, allCallRead, surveillanceRead, allCallReplyRead}
+use Rattle.frames_rules.specs.Codes.{whose, codeOf}
+use Rattle.altitude_rules.specs.Code.{eleven, feetBy25, grayValue, eight, fiveHundreds, group, hundreds, feetBy100, formOf, altitude}
+use Rattle.console_rules.specs.FeetLines as feet
+use Rattle.console_rules.specs.Texts.{word, numberWord, bytesAt, ofNumber, ofBytes, doneText, refusalText, answerText}
+use Rattle.console_rules.specs.Parity.{reckonedText, correctedText, remainderText, overlayText, fixedText, correctText}
+use Rattle.console_rules.specs.Building.{builtText, selectiveText, buildText, allCallText}
+use Rattle.console_rules.specs.Frames.{numberText, fieldsText, endText, numbersText, valuesText, readText, replyText, interrogationText, upText, downText, codeWord, whoseText, codeText}
+use Rattle.console_rules.specs.Feet.{feetText}
+use Rattle.console_rules.specs.Aircraft.{unmade, whenMade, stateSaid, queueSaid, sendSaid}
+use Rattle.console_rules.specs.Names.{table, commandIn, commandOf, wordsFor}
+use Rattle.console_rules.specs.Console.{callSaid, countedSaid, commandSaid, comment, wordsSaid, lineSaid, lineText}
+
+-- what a line prints before any model, both as quoted texts
+abbrev Prints : String → String → Type 0
+Prints line text = lineText unmade (plain line) ≡ plain text
+
+-- ---- the words of a line where a number or bytes belong; a word that is not there is neither
+words-read :
+    (numberWord 1 (wordsOf (plain "overlay 4294967295")) ≡ Is 4294967295)
+    × (numberWord 2 (wordsOf (plain "send 30 0 200110401E9EB5")) ≡ Is 0)
+    × (numberWord 1 (wordsOf (plain "overlay")) ≡ Not)
+    × (bytesAt 1 (wordsOf (plain "queue 20466D72D75DA0")) ≡ some (0x20 ∷ 0x46 ∷ 0x6D ∷ 0x72 ∷ 0xD7 ∷ 0x5D ∷ 0xA0 ∷ []))
+    × (bytesAt 3 (wordsOf (plain "send 30 0 200110401E9EB5")) ≡ some (0x20 ∷ 0x01 ∷ 0x10 ∷ 0x40 ∷ 0x1E ∷ 0x9E ∷ 0xB5 ∷ []))
+    × (bytesAt 1 (wordsOf (plain "queue")) ≡ none)
+unfolding word wordsOf parts full grown blank sameAs numberIn allDigits valueAfter bytesIn isHex allHex hexValue pairs isDigit between
+words-read = (refl, refl, refl, refl, refl, refl)
+
+-- ---- parity: published frames, the starred corrections and overlays of document 01, lengths and numbers out of their ranges
+parity-lines :
+    Prints "remainder 5D484FDEA248F5" "0 000016\n"
+    × Prints "remainder A800292DFFBBA9383FFCEB903D01" "0 D9938E\n"
+    × Prints "remainder A5A5A5A5A5A5" "1\n"
+    × Prints "overlay 2" "0 000003\n"
+    × Prints "overlay 8388608" "0 FFFA04\n"
+    × Prints "overlay 0000000001" "0 000001\n"
+    × Prints "overlay 16777216" "2\n"
+    × Prints "correct 8000000200000000000000000002 8000000200000000000000000002 0 5" "0 0000000000000000000000000000 3\n"
+    × Prints "correct 8000000200000000000000000002 8000000200000000000000000000 0 5" "12\n"
+    × Prints "correct 8000000200000000000000000002 8000000200000000000000000002 0 2" "11\n"
+    × Prints "correct 0000000000000000000000000000 0000000000000000000000000002 2 5" "0 0000000000000000000000000002 1\n"
+unfolding filter lineSaid wordsSaid commandSaid countedSaid callSaid comment commandOf commandIn table wordsFor word wordsOf parts full grown blank sameAs ofNumber ofBytes numberIn allDigits valueAfter bytesIn isHex allHex hexValue pairs isDigit between answerText doneText refusalText decimal decimalIn hexIn hexOf hexDigit bits shiftIn divide remainderOf lowBits times overlayOf syndrome sizeOf subsets xorOf matching flipped correction reckonedText correctedText remainderText overlayText fixedText correctText
+parity-lines = (refl, refl, refl, refl, refl, refl, refl, refl, refl, refl, refl)
+
+-- ---- interrogations built: the fields by their bit numbers, the address over the uplink; 2 for another UF, 1 for an MA not of seven bytes
+building-lines :
+    Prints "build 4 1 16 7 4660 00000000000000 4196672" "0 21871234E29B45\n"
+    × Prints "build 20 4 17 3 43981 01020304050607 4739038" "0 A48BABCD01020304050607F18EBD\n"
+    × Prints "build 11 0 0 0 0 00000000000000 1" "2\n"
+    × Prints "build 4 0 0 0 0 000000000000 1" "1\n"
+    × Prints "allcall 1 9 2" "0 58CA00005FB57F\n"
+    × Prints "allcall 16 0 0" "2\n"
+unfolding lineSaid wordsSaid commandSaid countedSaid callSaid comment commandOf commandIn table wordsFor word wordsOf parts full grown blank sameAs ofNumber ofBytes numberIn allDigits valueAfter bytesIn isHex allHex hexValue pairs isDigit between answerText doneText refusalText decimal decimalIn hexIn hexOf hexDigit bits shiftIn divide remainderOf lowBits times overlayOf selectiveRanged allCallRanged selective allCall building allCalling headOf midOf selectiveHead allCallHead front sealed builtText selectiveText buildText allCallText
+building-lines = (refl, refl, refl, refl, refl, refl)
+
+-- ---- frames read: those interrogations again, published replies, and whose code a DF 11 carries for an SI station that permits its matching II or not
+frame-lines :
+    Prints "up 21871234E29B45" "0 4 1 16 7 4660 7FF37D\n"
+    × Prints "up A48BABCD01020304050607F18EBD" "0 20 4 17 3 43981 01020304050607 7077CB\n"
+    × Prints "up 58CA00005FB57F" "0 11 1 9 2 AAAC07\n"
+    × Prints "up C0000000000000" "14\n"
+    × Prints "down 20001718029FCD" "0 4 0 0 0 5912 4891A6\n"
+    × Prints "down A800292DFFBBA9383FFCEB903D01" "0 21 0 0 1 2349 FFBBA9383FFCEB D9938E\n"
+    × Prints "down 5D484FDEA248F5" "0 11 5 4739038 000016\n"
+    × Prints "down C80B2DCA34AA21DD821A04CB64D4" "14\n"
+    × Prints "code 5D484FDEA248F5 1 6 0" "0 own\n"
+    × Prints "code 5D484FDEA248E5 1 6 1" "0 matching\n"
+    × Prints "code 5D484FDEA248E5 1 6 0" "0 other\n"
+    × Prints "code 5D484FDEA248F5 1 6 2" "2\n"
+unfolding lineSaid wordsSaid commandSaid countedSaid callSaid comment commandOf commandIn table wordsFor word wordsOf parts full grown blank sameAs ofNumber ofBytes numberIn allDigits valueAfter bytesIn isHex allHex hexValue pairs isDigit between answerText doneText refusalText decimal decimalIn hexIn hexOf hexDigit bits shiftIn divide remainderOf headOf midOf readAs selectiveRead allCallRead surveillanceRead allCallReplyRead whose codeOf numberText fieldsText endText numbersText valuesText readText replyText interrogationText upText downText codeWord whoseText codeText
+frame-lines = (refl, refl, refl, refl, refl, refl, refl, refl, refl, refl, refl, refl)
+
+-- ---- altitudes: published codes, none, metric, an illegal pattern, and a code of 14 bits
+feet-lines :
+    Prints "feet 1024" "0 -1000\n"
+    × Prints "feet 260" "0 126700\n"
+    × Prints "feet 5912" "0 36000\n"
+    × Prints "feet 0" "0 none\n"
+    × Prints "feet 64" "0 metric\n"
+    × Prints "feet 1" "18\n"
+    × Prints "feet 8192" "2\n"
+unfolding lineSaid wordsSaid commandSaid countedSaid callSaid comment commandOf commandIn table wordsFor word wordsOf parts full grown blank sameAs ofNumber ofBytes numberIn allDigits valueAfter bytesIn isHex allHex hexValue pairs isDigit between decimal decimalIn signedDecimal eleven feetBy25 grayValue eight fiveHundreds group hundreds feetBy100 formOf altitude feet.valueText feet.answerText feetText
+feet-lines = (refl, refl, refl, refl, refl, refl, refl)
+
+-- ---- lines that cannot be read, aircraft's lines before any model, and lines that print nothing
+unread-lines :
+    Prints "unknown" "?\n"
+    × Prints "Remainder 00000000000000" "?\n"
+    × Prints "overlay" "?\n"
+    × Prints "overlay 1 2" "?\n"
+    × Prints "overlay 1A" "?\n"
+    × Prints "overlay 00000000001" "?\n"
+    × Prints "remainder 0" "?\n"
+    × Prints "state" "?\n"
+    × Prints "queue 20466D72D75DA0" "?\n"
+    × Prints "send 0 0 5808000024E102" "?\n"
+    × Prints "" ""
+    × Prints "  # remainder" ""
+unfolding lineSaid wordsSaid commandSaid countedSaid callSaid comment commandOf commandIn table wordsFor word wordsOf parts full grown blank sameAs ofNumber ofBytes numberIn allDigits valueAfter bytesIn isHex allHex hexValue pairs isDigit between answerText doneText refusalText decimal decimalIn hexIn hexOf hexDigit overlayText remainderText unmade whenMade stateSaid queueSaid sendSaid
+unread-lines = (refl, refl, refl, refl, refl, refl, refl, refl, refl, refl, refl, refl)

@@ -1,0 +1,8 @@
+-- The laws of the lines: that each one's text fits, the table of names, and the whole run; and worked runs and lines.
+pub mod FeetRun
+pub mod Short
+pub mod ShortAircraft
+pub mod Table
+pub mod Run
+mod AircraftExamples
+mod Examples

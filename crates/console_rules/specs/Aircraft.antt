@@ -1,0 +1,142 @@
+-- The lines `model ADDRESS AC ID FS CA`, `queue HEX`, `send TIME DRAW HEX` and `state`: what each prints, and the aircraft that it leaves.
+use Prim.Native.Nat.{ℕ, suc, _-_, _≤_}
+use mathlib.Core.Path.{_≡_}
+use mathlib.Core.Bool.{true, false}
+use mathlib.Core.List.{List, [], _∷_, _++_}
+use mathlib.Core.Option.{Option}
+use lib.Dec.{eqb, ltb}
+use lib.ListN.{length, take}
+use Rattle.lists.specs.Lists.{pick}
+use Rattle.text_rules.specs.Put.{Put, decimal}
+use Rattle.text_rules.specs.Plain.{plain}
+use Rattle.text_rules.specs.Hex.{hexOf}
+use Rattle.text_rules.specs.declared.answer.Number.{Number}
+use Rattle.console_rules.specs.Texts.{numberWord, bytesAt, unread, ofNumber, ofBytes, doneText, refusalText, answerText}
+use Rattle.model_rules.specs.declared.state.Lock.{Lock}
+use Rattle.model_rules.specs.declared.state.Timer.{Timer}
+use Rattle.model_rules.specs.declared.state.Holder.{Holder}
+use Rattle.model_rules.specs.declared.state.Holder.the-variants.{Nobody, Held}
+use Rattle.model_rules.specs.declared.state.Transponder.{Transponder}
+use Rattle.model_rules.specs.declared.state.Made.{Made}
+use Rattle.model_rules.specs.declared.state.Queued.{Queued}
+use Rattle.model_rules.specs.declared.state.Took.{Took}
+use Rattle.model_rules.specs.State.{waiting}
+use Rattle.model_rules.specs.Lockout.{locks}
+use Rattle.model_rules.specs.Calls.{newborn, making, queuing, taking}
+use Rattle.console_rules.specs.declared.state.Aircraft.{Aircraft}
+use Rattle.console_rules.specs.declared.state.Shown.{Shown}
+
+-- ---- the aircraft
+
+-- before any model; its transponder of zeros is of no use
+unfoldable pub unmade : Aircraft
+unmade = record { made = false; transponder = newborn 0 0 0 0 0 }
+
+-- one that was made
+abbrev pub flying : Transponder → Aircraft
+flying t = record { made = true; transponder = t }
+
+-- ---- what a line says: the text that it prints, and the aircraft that it leaves
+pub record Said : Type 0 where
+  pub text : List ℕ
+  pub aircraft : Aircraft
+
+-- the text was laid at the front of a buffer, and the answer has the aircraft; the text is at most the 512 bytes that the program lends,
+-- since an aircraft's numbers have the bits of their types
+pub record Showed (s : Said) (before after : List ℕ) (r : Shown) : Type 0 where
+  pub text-put : Put (s .text) 0 before after (r .size)
+  pub aircraft : r .aircraft ≡ s .aircraft
+  pub short : length (s .text) ≤ 512
+
+-- the one with this text and this aircraft
+abbrev pub saying : List ℕ → Aircraft → Said
+saying t a = record { text = t; aircraft = a }
+
+-- a line that cannot be read leaves the aircraft as it was
+abbrev pub unreadSaid : Aircraft → Said
+unreadSaid a = saying unread a
+
+-- a call's number alone, 0 or the refusal's
+abbrev pub numberSaid : ℕ → Aircraft → Said
+numberSaid n a = saying (refusalText n) a
+
+-- a word that is no number, or no bytes, where they belong cannot be read
+abbrev pub saidWithNumber : Aircraft → Number → (ℕ → Said) → Said
+saidWithNumber a n said = ofNumber (unreadSaid a) n said
+
+abbrev pub saidWithBytes : Aircraft → Option (List ℕ) → (List ℕ → Said) → Said
+saidWithBytes a bs said = ofBytes (unreadSaid a) bs said
+
+-- before any model the line cannot be read
+unfoldable pub whenMade : Aircraft → Said → Said
+whenMade a said = pick (a .made) said (unreadSaid a)
+
+-- ---- `model`: "from then on this is the aircraft"; a refused one leaves the aircraft as it was
+unfoldable pub madeSaid : Aircraft → Made → Said
+madeSaid a m = numberSaid (m .number) (pick (eqb (m .number) 0) (flying (m .transponder)) a)
+
+-- the five numbers of the line
+unfoldable pub modelSaid : Aircraft → List (List ℕ) → Said
+modelSaid a ws =
+    saidWithNumber a (numberWord 1 ws) (λ address.
+    saidWithNumber a (numberWord 2 ws) (λ ac.
+    saidWithNumber a (numberWord 3 ws) (λ id.
+    saidWithNumber a (numberWord 4 ws) (λ fs.
+    saidWithNumber a (numberWord 5 ws) (λ ca.
+    madeSaid a (making address ac id fs ca))))))
+
+-- ---- `queue`
+-- the number of the queuing, and the aircraft with what it has left
+unfoldable pub queuedSaid : Queued → Said
+queuedSaid q = numberSaid (q .number) (flying (q .transponder))
+
+-- the message of the line
+unfoldable pub queueSaid : Aircraft → List (List ℕ) → Said
+queueSaid a ws = whenMade a (saidWithBytes a (bytesAt 1 ws) (λ message. queuedSaid (queuing (a .transponder) message)))
+
+-- ---- `send`
+-- the bytes of a reply, or `-` where there is none
+unfoldable pub sentText : List ℕ → List ℕ
+sentText [] = plain "-"
+sentText (b ∷ bs) = hexOf (b ∷ bs)
+
+-- 0 and the reply, or the refusal's number alone, and the aircraft with what the frame has left
+unfoldable pub tookSaid : Took → Said
+tookSaid k = saying (answerText (k .number) (sentText (take (k .length) (k .reply)))) (flying (k .transponder))
+
+-- the time, the draw and the frame of the line
+unfoldable pub sendSaid : Aircraft → List (List ℕ) → Said
+sendSaid a ws =
+    whenMade a
+    (saidWithNumber a (numberWord 1 ws) (λ time.
+    saidWithNumber a (numberWord 2 ws) (λ draw.
+    saidWithBytes a (bytesAt 3 ws) (λ frame.
+    tookSaid (taking (a .transponder) time draw frame)))))
+
+-- ---- `state`
+-- the holder's II, or `-` for nobody
+unfoldable pub holderText : Holder → List ℕ
+holderText Nobody = plain "-"
+holderText (Held ii since) = decimal ii
+
+-- the code of the timer at a place: `II0` to `II15`, then `SI1` to `SI63`
+unfoldable pub timerText : ℕ → List ℕ
+timerText k = pick (ltb k 16) (plain " II" ++ decimal k) (plain " SI" ++ decimal (k - 15))
+
+-- the code if its timer locks
+unfoldable pub lockText : ℕ → Lock → List ℕ
+lockText k l = pick (locks l) (timerText k) []
+
+-- the locked codes of the timers from the place k on, rising
+unfoldable pub locksText : ℕ → List Timer → List ℕ
+locksText k [] = []
+locksText k (t ∷ ts) = lockText k (t .lock) ++ locksText (suc k) ts
+
+-- the time, the holder, how many messages wait, and the locked codes
+unfoldable pub stateText : Transponder → List ℕ
+stateText t =
+    doneText (decimal (t .time) ++ (plain " " ++ (holderText (t .holder) ++ (plain " " ++ (decimal (length (waiting (t .messages))) ++ locksText 0 (t .timers .list))))))
+
+-- nothing changes
+unfoldable pub stateSaid : Aircraft → Said
+stateSaid a = whenMade a (saying (stateText (a .transponder)) a)

@@ -1,0 +1,10 @@
+-- The line `feet AC`.
+use Prim.Native.Nat.{ℕ}
+use mathlib.Core.List.{List}
+use Rattle.altitude_rules.specs.Code.{altitude}
+use Rattle.console_rules.specs.FeetLines as feet-lines
+use Rattle.console_rules.specs.Texts.{numberWord, withNumber}
+
+-- the altitude's own answer: feet, none, metric, or the refusal's number alone
+unfoldable pub feetText : List (List ℕ) → List ℕ
+feetText ws = withNumber (numberWord 1 ws) (λ ac. feet-lines.answerText (altitude ac))

@@ -1,2 +1,0 @@
--- The definitions: the lines of feet.
-pub mod Lines

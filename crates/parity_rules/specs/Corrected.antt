@@ -1,0 +1,28 @@
+-- What a taken correction is: "becomes that one message", and its flips are "the places where message and output differ".
+use Prim.Native.Nat.{ℕ, _≤_}
+use mathlib.Core.Path.{_≡_}
+use mathlib.Core.List.{List, [], _∷_}
+use lib.ListN.{length}
+use Rattle.parity_rules.specs.Messages.{bits, differing, AreBytes}
+use Rattle.parity_rules.specs.Division.{remainderOf}
+use Rattle.parity_rules.specs.Correction.{sizeOf}
+
+-- a list of places has its ones only where the marks have ones
+abbrev pub AtMarks : List ℕ → List ℕ → Type 0
+AtMarks [] [] = Unit {0}
+AtMarks [] (m ∷ ms) = ⊥
+AtMarks (b ∷ s) [] = ⊥
+AtMarks (b ∷ s) (m ∷ ms) = (b ≤ m) × AtMarks s ms
+
+-- o is a message as long as msg, differs from it at marked places only, and has the overlay as its remainder
+pub record Fitting (msg marks : List ℕ) (overlay : ℕ) (o : List ℕ) : Type 0 where
+  pub bytes : AreBytes o
+  pub length-is : length o ≡ length msg
+  pub at-marks : AtMarks (differing msg o) (bits marks)
+  pub overlaid : remainderOf (bits o) ≡ overlay
+
+-- out is the one such message, and n the number of places where it differs from msg
+pub record Corrected (msg marks : List ℕ) (overlay n : ℕ) (out : List ℕ) : Type 0 where
+  pub fits : Fitting msg marks overlay out
+  pub flips : n ≡ sizeOf (differing msg out)
+  pub only : (o : List ℕ) → Fitting msg marks overlay o → o ≡ out

@@ -1,0 +1,249 @@
+-- What the records show is read off the whole transcript: from the bytes of the input and of the transcript alone, for every input.
+use Prim.Native.Nat.{ℕ, zero, suc, _+_, _-_, _≤_}
+use mathlib.Core.Path.{_≡_, refl, ap, ap₂, sym, _∙_}
+use mathlib.Core.Bool.{Bool, true, false}
+use mathlib.Core.List.{List, [], _∷_, _++_, map, append-assoc, append-nil}
+use lib.Dec.{eqb}
+use lib.IntN.{ℤ}
+use lib.ListN.{length, take, drop, length-take}
+use lib.Seq.{take-at, drop-at}
+use native.Mathlib.Omega.{arith}
+use Rattle.lists.specs.Lists.{pick, All}
+use Rattle.text_rules.specs.Line.{parts, linesOf}
+use Rattle.text_rules.specs.Number.{valueAfter}
+use Rattle.text_rules.specs.Put.{decimal}
+use Rattle.text_rules.specs.Signed.{signedDecimal}
+use Rattle.text_rules.proofs.Decimal.{decimal-value}
+use Rattle.text_rules.proofs.Parted.{Word, decimal-word, signed-word, dash-word}
+use Rattle.planner_rules.specs.declared.entry.Entry.{Entry}
+use Rattle.reader_rules.specs.declared.reading.Found.{Found}
+use Rattle.reader_rules.specs.declared.reading.Found.the-variants.{End, Unknown, Cut, Whole}
+use Rattle.reader_rules.specs.Records.{recordAt}
+use Rattle.station_rules.specs.declared.state.Station.{Station}
+use Rattle.station_rules.specs.declared.state.Value.{Value}
+use Rattle.station_rules.specs.declared.state.Value.the-variants.{Never, Heard}
+use Rattle.station_rules.specs.declared.state.Report.{Report}
+use Rattle.station_rules.specs.State.{entriesOf}
+use Rattle.station_rules.specs.Calls.{reported}
+use Rattle.station_rules.specs.Planning.{nextPlan}
+use Rattle.station_rules.specs.Replies.{Replied, replied}
+use Rattle.station_rules.specs.History.{Call, setup, new, remove, move, request, plan, reply, report, answer, after}
+use Rattle.stream_rules.specs.Lines.{line, answerLine, replyLine, entryLine, entryLines, valueWord, ageWord, reportLine}
+use Rattle.stream_rules.specs.Step.{Outcome}
+use Rattle.stream_rules.specs.Run.{outcome, goesOn, textFrom, transcript}
+use Rattle.stream_rules.specs.Spelled.{streamOf, callOf, placeOf, foundAfter, callsOf, recordLines, reached}
+use Rattle.stream_rules.specs.Reader.{Shown, numbersOn, answerOn, shownOn, shownIn, seen, shownTo, sixes, countOn, Reading, readWhole, readOne, readTo}
+use Rattle.stream_rules.proofs.Spelled.{linesFor, whole-done}
+use Rattle.stream_rules.proofs.ReadBack.{line-read}
+use Rattle.stream_rules.proofs.Stands.{whole-reached, within, onward, one-more}
+
+-- ---- texts of whole lines
+-- a text whose lines are these, whatever stands behind it
+abbrev Lined : List ℕ → List (List ℕ) → Type 0
+Lined text ls = (t : List ℕ) → numbersOn (text ++ t) ≡ ls ++ numbersOn t
+
+lined-then : (a b : List ℕ) (ls ms : List (List ℕ)) → Lined a ls → Lined b ms → Lined (a ++ b) (ls ++ ms)
+lined-then a b ls ms h g t =
+    ap numbersOn (append-assoc a b t)
+    ∙ h (b ++ t)
+    ∙ ap (λ (x : List (List ℕ)). ls ++ x) (g t)
+    ∙ sym (append-assoc ls ms (numbersOn t))
+
+lined-is : (text : List ℕ) (ls : List (List ℕ)) → Lined text ls → numbersOn text ≡ ls
+unfolding linesOf parts
+lined-is text ls h = ap numbersOn (sym (append-nil text)) ∙ h [] ∙ append-nil ls
+
+-- words that are given one by one
+abbrev values : List (List ℕ) → List ℕ
+values ws = map (valueAfter 0) ws
+
+-- ---- the lines of each call
+-- its lines, how many they are beside lines that are none of a plan's entries, and that the first is none
+pub record CallLines (c : Call) (text : List ℕ) : Type 0 where
+  pub lines : List (List ℕ)
+  pub lined : Lined text lines
+  pub count : (t : List (List ℕ)) → sixes t ≡ 0 → countOn c (lines ++ t) ≡ length lines
+  pub first : (t : List (List ℕ)) → sixes (lines ++ t) ≡ 0
+
+abbrev answerWords : ℕ → ℕ → ℕ → List (List ℕ)
+answerWords n kind number = decimal n ∷ decimal kind ∷ decimal number ∷ []
+
+answer-lined : (n kind number : ℕ) → Lined (answerLine n kind number) (values (answerWords n kind number) ∷ [])
+unfolding answerLine All
+answer-lined n kind number = line-read (answerWords n kind number) (decimal-word n, (decimal-word kind, (decimal-word number, tt)))
+
+-- a line alone
+answer-lines : (c : Call) → ((ls : List (List ℕ)) → countOn c ls ≡ 1) → (n kind number : ℕ) → CallLines c (answerLine n kind number)
+unfolding sixes
+answer-lines c one n kind number =
+    record { lines = values (answerWords n kind number) ∷ []; lined = answer-lined n kind number; count = λ t z. one _; first = λ t. refl }
+
+abbrev replyWords : ℕ → ℕ → ℕ → ℤ → List (List ℕ)
+replyWords n kind flips delay = decimal n ∷ decimal kind ∷ decimal 0 ∷ decimal flips ∷ signedDecimal delay ∷ []
+
+reply-lined : (n kind flips : ℕ) (delay : ℤ) → Lined (replyLine n kind flips delay) (values (replyWords n kind flips delay) ∷ [])
+unfolding replyLine All
+reply-lined n kind flips delay =
+    line-read (replyWords n kind flips delay)
+    (decimal-word n, (decimal-word kind, (decimal-word 0, (decimal-word flips, (signed-word delay, tt)))))
+
+reply-lines : (c : Call) → ((ls : List (List ℕ)) → countOn c ls ≡ 1) → (n kind : ℕ) (r : Replied) (b : Bool)
+    → CallLines c (pick b (replyLine n kind (r .flips) (r .delay)) (answerLine n kind (r .number)))
+unfolding sixes
+reply-lines c one n kind r true =
+    record {
+      lines = values (replyWords n kind (r .flips) (r .delay)) ∷ [];
+      lined = reply-lined n kind (r .flips) (r .delay);
+      count = λ t z. one _;
+      first = λ t. refl;
+    }
+reply-lines c one n kind r false = answer-lines c one n kind (r .number)
+
+-- a plan's lines
+pub record EntriesLined (text : List ℕ) : Type 0 where
+  pub lines : List (List ℕ)
+  pub lined : Lined text lines
+  pub all-six : (t : List (List ℕ)) → sixes t ≡ 0 → sixes (lines ++ t) ≡ length lines
+
+entry-lined : (k : ℕ) (es : List Entry) → EntriesLined (entryLines k es)
+unfolding entryLines entryLine sixes All
+entry-lined k [] = record { lines = []; lined = λ t. refl; all-six = λ t z. z }
+entry-lined k (e ∷ es) =
+    let later = entry-lined (suc k) es in
+    let ws =
+    decimal k ∷ decimal (e .ask .request .unit) ∷ decimal (e .ask .request .address) ∷ decimal (e .start) ∷ decimal _ ∷ decimal _ ∷ [] in
+    record {
+      lines = values ws ∷ later .lines;
+      lined =
+          lined-then (entryLine k e) (entryLines (suc k) es) (values ws ∷ []) (later .lines)
+          (line-read ws (decimal-word _, (decimal-word _, (decimal-word _, (decimal-word _, (decimal-word _, (decimal-word _, tt)))))))
+          (later .lined);
+      all-six = λ t z. ap suc (later .all-six t z);
+    }
+
+plan-lines : (n kind tag : ℕ) (es : List Entry) → CallLines (plan tag) (answerLine n kind 0 ++ entryLines 0 es)
+unfolding sixes
+plan-lines n kind tag es =
+    let below = entry-lined 0 es in
+    record {
+      lines = values (answerWords n kind 0) ∷ below .lines;
+      lined = lined-then (answerLine n kind 0) (entryLines 0 es) (values (answerWords n kind 0) ∷ []) (below .lines) (answer-lined n kind 0) (below .lined);
+      count = λ t z. ap suc (below .all-six t z);
+      first = λ t. refl;
+    }
+
+-- a report's lines
+value-word : (v : Value) → Word (valueWord v)
+unfolding valueWord
+value-word Never = dash-word
+value-word (Heard v age) = decimal-word v
+
+age-word : (v : Value) → Word (ageWord v)
+unfolding ageWord
+age-word Never = dash-word
+age-word (Heard v age) = decimal-word age
+
+abbrev reportWords : Value → Value → List (List ℕ)
+reportWords ac id = valueWord ac ∷ ageWord ac ∷ valueWord id ∷ ageWord id ∷ []
+
+report-lined : (ac id : Value) → Lined (reportLine ac id) (values (reportWords ac id) ∷ [])
+unfolding reportLine All
+report-lined ac id =
+    line-read (reportWords ac id) (value-word ac, (age-word ac, (value-word id, (age-word id, tt))))
+
+two-or-one : (number : ℕ) (b : Bool) → eqb number 0 ≡ b → _≡_ {A = ℕ} (pick (eqb (valueAfter 0 (decimal number)) 0) 2 1) (pick b 2 1)
+two-or-one number b e = rw (decimal-value number, e)
+
+report-lines : (n kind a : ℕ) (r : Report) (b : Bool) → eqb (r .number) 0 ≡ b
+    → CallLines (report a) (answerLine n kind (r .number) ++ pick b (reportLine (r .ac) (r .id)) [])
+unfolding sixes
+report-lines n kind a r true e =
+    record {
+      lines = values (answerWords n kind (r .number)) ∷ values (reportWords (r .ac) (r .id)) ∷ [];
+      lined =
+          lined-then (answerLine n kind (r .number)) (reportLine (r .ac) (r .id))
+          (values (answerWords n kind (r .number)) ∷ []) (values (reportWords (r .ac) (r .id)) ∷ [])
+          (answer-lined n kind (r .number)) (report-lined (r .ac) (r .id));
+      count = λ t z. two-or-one (r .number) true e;
+      first = λ t. refl;
+    }
+report-lines n kind a r false e =
+    record {
+      lines = values (answerWords n kind (r .number)) ∷ [];
+      lined = lined-then (answerLine n kind (r .number)) [] (values (answerWords n kind (r .number)) ∷ []) [] (answer-lined n kind (r .number)) (λ t. refl);
+      count = λ t z. two-or-one (r .number) false e;
+      first = λ t. refl;
+    }
+
+call-lines : (n kind : ℕ) (st : Station) (c : Call) → CallLines c (linesFor n kind st c)
+call-lines n kind st (setup h) = answer-lines (setup h) (λ ls. refl) n kind _
+call-lines n kind st (new a near far) = answer-lines (new a near far) (λ ls. refl) n kind _
+call-lines n kind st (remove a) = answer-lines (remove a) (λ ls. refl) n kind _
+call-lines n kind st (move a near far) = answer-lines (move a near far) (λ ls. refl) n kind _
+call-lines n kind st (request q) = answer-lines (request q) (λ ls. refl) n kind _
+call-lines n kind st (plan tag) = plan-lines n kind tag (entriesOf (nextPlan st tag .plan))
+call-lines n kind st (reply k tag msg marks out) =
+    let r = replied st k tag msg marks out in
+    reply-lines (reply k tag msg marks out) (λ ls. refl) n kind r (eqb (r .number) 0)
+call-lines n kind st (report a) = report-lines n kind a (reported st a) (eqb (reported st a .number) 0) refl
+
+-- ---- the text from a record on begins with no entry's line
+begins : (s : List ℕ) (at n : ℕ) (st : Station) (f : Found) (t : List ℕ) → recordAt s at ≡ f
+    → sixes (numbersOn (outcome s n st f .lines ++ pick (goesOn f) t [])) ≡ 0
+unfolding outcome goesOn sixes linesOf parts
+begins s at n st End t h = refl
+begins s at n st (Unknown b) t h = ap sixes (answer-lined n b 16 [])
+begins s at n st (Cut kind) t h = ap sixes (answer-lined n kind 17 [])
+begins s at n st (Whole kind body next) t h =
+    let l = call-lines n kind st (callOf s kind body) in
+    ap (λ (o : Outcome). sixes (numbersOn (o .lines ++ t))) (whole-done s at n st h) ∙ ap sixes (l .lined t) ∙ l .first (numbersOn t)
+
+onward-begins : (j : ℕ) (s : List ℕ) (k : ℕ) → sixes (numbersOn (onward j s k)) ≡ 0
+unfolding textFrom sixes linesOf parts recordLines
+onward-begins zero s k = refl
+onward-begins (suc j) s k =
+    ap (λ (t : List ℕ). sixes (numbersOn t)) (one-more j s k)
+    ∙ begins s (placeOf s k) (suc k) (after (callsOf s k)) (foundAfter s k) (onward j s (suc k)) refl
+
+-- ---- record after record
+read-lines : (c : Call) (text : List ℕ) (v : List Shown) (t : List ℕ) → CallLines c text → sixes (numbersOn t) ≡ 0
+    → readWhole c (record { shown = v; left = numbersOn (text ++ t) }) ≡ record { shown = shownIn c text ∷ v; left = numbersOn t }
+read-lines c text v t l z =
+    let ls = l .lines in
+    let n : length ls ≡ countOn c (ls ++ numbersOn t) = sym (l .count (numbersOn t) z) in
+    ap (λ (x : List (List ℕ)). readWhole c (record { shown = v; left = x })) (l .lined t)
+    ∙ ap₂ (λ (x y : List (List ℕ)). record { shown = shownOn c x ∷ v; left = y })
+    (take-at ls (numbersOn t) (countOn c (ls ++ numbersOn t)) n ∙ sym (lined-is text ls (l .lined)))
+    (drop-at ls (numbersOn t) (countOn c (ls ++ numbersOn t)) n)
+
+read-found : (s : List ℕ) (at n : ℕ) (st : Station) (f : Found) (v : List Shown) (t : List ℕ) → recordAt s at ≡ f → goesOn f ≡ true → sixes (numbersOn t) ≡ 0
+    → readOne s f (record { shown = v; left = numbersOn (outcome s n st f .lines ++ pick (goesOn f) t []) })
+    ≡ record { shown = seen s f (outcome s n st f .lines) v; left = numbersOn t }
+unfolding readOne seen outcome goesOn
+read-found s at n st End v t h e z = let w : _≡_ {A = ℕ} 0 1 = cc in absurd (omega arith)
+read-found s at n st (Unknown b) v t h e z = let w : _≡_ {A = ℕ} 0 1 = cc in absurd (omega arith)
+read-found s at n st (Cut kind) v t h e z = let w : _≡_ {A = ℕ} 0 1 = cc in absurd (omega arith)
+read-found s at n st (Whole kind body next) v t h e z =
+    let c = callOf s kind body in
+    let o = whole-done s at n st h in
+    ap (λ (x : Outcome). readWhole c (record { shown = v; left = numbersOn (x .lines ++ t) })) o
+    ∙ read-lines c (linesFor n kind st c) v t (call-lines n kind st c) z
+    ∙ ap (λ (x : Outcome). record { shown = shownIn c (x .lines) ∷ v; left = numbersOn t }) (sym o)
+
+read-on : (s : List ℕ) (k j m : ℕ) → k + j ≡ m → reached s k ≡ true
+    → readTo s (onward m s 0) k ≡ record { shown = shownTo s k; left = numbersOn (onward j s k) }
+unfolding readTo shownTo reached recordLines
+read-on s zero j m e h = let z : j ≡ m = omega (arith, e) in rw z
+read-on s (suc k) j m e h =
+    ap (readOne s (foundAfter s k)) (read-on s k (suc j) m (omega (arith, e)) (whole-reached s k h))
+    ∙ ap (λ (t : List ℕ). readOne s (foundAfter s k) (record { shown = shownTo s k; left = numbersOn t })) (one-more j s k)
+    ∙ read-found s (placeOf s k) (suc k) (after (callsOf s k)) (foundAfter s k) (shownTo s k) (onward j s (suc k)) refl h (onward-begins j s (suc k))
+
+-- what the records show stands in the bytes of the input and of the transcript
+pub read-off : (input : List ℕ) (k : ℕ) → reached (streamOf input) k ≡ true → readTo (streamOf input) (transcript input) k .shown ≡ shownTo (streamOf input) k
+unfolding transcript placeOf callsOf after
+read-off input k h =
+    let s = streamOf input in
+    let b = within s k h in
+    let l : length (take 65536 input) ≤ 65536 = simp length-take (omega arith) in
+    ap (λ (r : Reading). r .shown) (read-on s k (65537 - k) 65537 (omega (arith, b .0, b .1, l)) h)

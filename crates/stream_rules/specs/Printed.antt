@@ -1,0 +1,97 @@
+-- What a record prints, told by the demands from what the records before it spell and print.
+use Prim.Native.Nat.{ℕ, suc, _+_}
+use mathlib.Core.Path.{_≡_}
+use mathlib.Core.Bool.{true, false}
+use mathlib.Core.List.{List, [], _∷_, _++_}
+use lib.Dec.{eqb}
+use lib.IntN.{subℕ}
+use lib.ListN.{getD}
+use Rattle.lists.specs.Lists.{pick}
+use Rattle.text_rules.specs.Put.{decimal}
+use Rattle.parity_rules.specs.Messages.{differing}
+use Rattle.parity_rules.specs.Correction.{sizeOf}
+use Rattle.parity_rules.specs.Corrected.{Corrected}
+use Rattle.frames_rules.specs.Reading.{formatOf}
+use Rattle.planner_rules.specs.Plan.{Board}
+use Rattle.planner_rules.specs.Demand3.{Demand3}
+use Rattle.reader_rules.specs.declared.reading.Found.{Found}
+use Rattle.reader_rules.specs.declared.reading.Found.the-variants.{End, Unknown, Cut, Whole}
+use Rattle.station_rules.specs.State.{noAsk}
+use Rattle.station_rules.specs.Replies.{expected, startOf}
+use Rattle.station_rules.specs.History.{Call, setup, new, remove, move, request, plan, reply, report}
+use Rattle.station_rules.specs.Seen.{AC, ID, Event, inForce, lastSaid, shown}
+use Rattle.stream_rules.specs.Lines.{line, answerLine, replyLine, entryLines, reportLine}
+use Rattle.stream_rules.specs.Spelled.{numberGiven, callOf, foundAfter, recordLines, linesBefore, reached, streamOf}
+use Rattle.stream_rules.specs.Reader.{Shown, numbersOn, answerOn, entriesOn, knownBy, askedKnown, boardBy, lineOf, eventsBy}
+use Rattle.stream_rules.specs.Run.{goesOn, transcript}
+
+-- number, kind and the table's number, alone on a line
+abbrev pub numbered : ℕ → ℕ → List Call → Call → List ℕ
+numbered n kind cs c = answerLine n kind (numberGiven cs c)
+
+-- what the aircraft last said of AC and of ID, each with the number of plans since
+abbrev pub lastSaidLine : List Event → ℕ → List ℕ
+lastSaidLine es a = reportLine (shown (lastSaid AC a es)) (shown (lastSaid ID a es))
+
+-- the number on the line of a record, behind the record's own number and its kind; what a taken reply adds to the line, and the lines below
+pub record NumberPrinted (n kind number : ℕ) (text : List ℕ) : Type 0 where
+  pub added : List (List ℕ)
+  pub below : List ℕ
+  pub text-is : text ≡ line (decimal n ∷ decimal kind ∷ decimal number ∷ added) ++ below
+  -- and a reader finds it there
+  pub read-as : answerOn (numbersOn text) ≡ number
+
+-- the plan that the lines of a record tell, after records that showed v
+abbrev pub boardOn : List Shown → ℕ → List ℕ → Board
+boardOn v tag text = boardBy (knownBy v) (entriesOn (plan tag) (numbersOn text))
+
+-- a plan: the lines are those of the entries that they tell, which meet demand 3 against the waiting list of that moment
+pub record PlanPrinted (n kind : ℕ) (v : List Shown) (tag : ℕ) (text : List ℕ) : Type 0 where
+  pub text-is : text ≡ answerLine n kind 0 ++ entryLines 0 (boardOn v tag text .placed)
+  pub demand : Demand3 (knownBy v .setup) (askedKnown (knownBy v)) (boardOn v tag text .placed) (boardOn v tag text .waiting)
+
+-- a taken reply: the number of places where the message and the one corrected message differ, and s − t − 531: s is its tag minus the newest plan's, and
+-- t the start on the entry's line. The message is corrected over the address on that line, and its format is what the entry's request draws
+pub record ReplyPrinted (n kind : ℕ) (v : List Shown) (entry tag : ℕ) (msg marks text : List ℕ) : Type 0 where
+  pub output : List ℕ
+  pub text-is : text ≡ replyLine n kind (sizeOf (differing msg output)) (subℕ (startOf tag (knownBy v .tag)) (lineOf entry v .start + 531))
+  pub corrected : Corrected msg marks (lineOf entry v .address) (sizeOf (differing msg output)) output
+  pub format : formatOf output ≡ expected (getD (inForce (eventsBy v)) entry noAsk .request)
+
+-- a reply that is refused prints its number alone
+pub record ReplyTold (n kind : ℕ) (cs : List Call) (v : List Shown) (entry tag : ℕ) (msg marks out text : List ℕ) : Type 0 where
+  pub taken : numberGiven cs (reply entry tag msg marks out) ≡ 0 → ReplyPrinted n kind v entry tag msg marks text
+  pub refused : (numberGiven cs (reply entry tag msg marks out) ≡ 0 → ⊥) → text ≡ numbered n kind cs (reply entry tag msg marks out)
+
+-- ---- the lines of record n for the call that it spells, after records that called cs and showed v
+abbrev pub Told : ℕ → ℕ → List Call → List Shown → Call → List ℕ → Type 0
+Told n kind cs v (setup h) text = text ≡ numbered n kind cs (setup h)
+Told n kind cs v (new a near far) text = text ≡ numbered n kind cs (new a near far)
+Told n kind cs v (remove a) text = text ≡ numbered n kind cs (remove a)
+Told n kind cs v (move a near far) text = text ≡ numbered n kind cs (move a near far)
+Told n kind cs v (request q) text = text ≡ numbered n kind cs (request q)
+Told n kind cs v (plan tag) text = PlanPrinted n kind v tag text
+Told n kind cs v (reply k tag msg marks out) text = ReplyTold n kind cs v k tag msg marks out text
+Told n kind cs v (report a) text =
+    text ≡ numbered n kind cs (report a) ++ pick (eqb (numberGiven cs (report a)) 0) (lastSaidLine (eventsBy v) a) []
+
+-- the lines of record n by what stands at its place: 16 and 17 for what is no whole record
+abbrev pub Printed : List ℕ → ℕ → List Call → List Shown → Found → List ℕ → Type 0
+Printed s n cs v End text = text ≡ []
+Printed s n cs v (Unknown b) text = text ≡ answerLine n b 16
+Printed s n cs v (Cut kind) text = text ≡ answerLine n kind 17
+Printed s n cs v (Whole kind body next) text = Told n kind cs v (callOf s kind body) text
+
+-- ---- the transcript is these lines
+-- the lines of the record after the first k stand in the transcript behind the lines of those before it; where the run ends, nothing follows
+pub record Stands (input : List ℕ) (k : ℕ) : Type 0 where
+  pub behind : List ℕ
+  pub transcript-is : transcript input ≡ linesBefore (streamOf input) k ++ (recordLines (streamOf input) k ++ behind)
+  pub last : goesOn (foundAfter (streamOf input) k) ≡ false → behind ≡ []
+
+-- the transcript is the lines of its records and nothing else: the last that the run comes to is no whole record, and all before it are whole
+pub record AllPrinted (input : List ℕ) : Type 0 where
+  pub count : ℕ
+  pub comes : reached (streamOf input) count ≡ true
+  pub ends : goesOn (foundAfter (streamOf input) count) ≡ false
+  pub transcript-is : transcript input ≡ linesBefore (streamOf input) (suc count)
