@@ -6,7 +6,7 @@ use lib.Dec.{eqb, ltb}
 use lib.ListN.{length, getD}
 use lib.IntN.{pos}
 use Rattle.lists.specs.Lists.{pick}
-use Rattle.lists.specs.Checks.{given}
+use Rattle.lists.specs.Checks.{checked, given}
 use borrow.Author.Tests.{lt-ltb, le-ltb, eq-eqb, ne-eqb}
 use Rattle.altitude_rules.specs.Code.{M, Q, group, feetBy25, feetBy100, Form, allZero, metric, by25, by100, illegal, formOf, readAs, altitude}
 use Rattle.altitude_rules.specs.Code.{altitudeNumber, Answer, altitudeSaid, altitudeTold, isIllegal, codeChecks}
@@ -80,5 +80,5 @@ number-by false by100 ac = refl
 number-by false illegal ac = refl
 
 pub number-of-code : (ac : ℕ) → altitudeTold ac .number ≡ given (codeChecks ac)
-unfolding altitudeTold altitude given
+unfolding altitudeTold altitude checked
 number-of-code ac = number-by (ltb 8191 ac) (formOf ac) ac

@@ -1,5 +1,6 @@
--- Laws on lists and arrays, a file for each kind of loop; on tests, tables, signed differences and XOR.
+-- Laws on lists and arrays, a file for each kind of loop; on tests, tables of checks, tables of numbers, signed differences and XOR.
 pub mod Tests
+pub mod Checks
 pub mod Every
 pub mod Table
 pub mod Total

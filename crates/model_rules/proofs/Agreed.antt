@@ -1,7 +1,7 @@
 -- The examples at the edges: every row of the listing says the same twice.
 use mathlib.Core.Path.{refl}
 use Rattle.lists.specs.Lists.{over}
-use Rattle.lists.specs.Checks.{given}
+use Rattle.lists.specs.Checks.{checked, given}
 use Rattle.lists.specs.Listing.{Agrees}
 use Rattle.parity_rules.specs.Messages.{bits}
 use Rattle.parity_rules.specs.Division.{shiftIn, divide, remainderOf}
@@ -25,5 +25,5 @@ use Rattle.model_rules.specs.Examples.{listing}
 
 -- the one claim
 pub model-agrees : Agrees listing
-unfolding bits shiftIn divide remainderOf lowBits times overlayOf over frames.replyRanged frames.allCallReplyRanged frames.selective frames.allCall frames.aReply frames.anAllCallReply frames.replying frames.allCallReplying headOf midOf selectiveHead allCallHead replyHead allCallReplyHead front sealed readAs selectiveRead allCallRead surveillanceRead codeFor drawn started messagesWith messagesAfter timerAfter timersAfter lapse startedByLOS startedByLSS commandOfSD commanded lockout lockedTo reserve closeout sending respond drawsBelow answers answerAllCall newborn makeRanged making queuing steps interrogated laidOver heardSelective heardAllCall taking after given reserving closing told lastCommand sentTo
+unfolding bits shiftIn divide remainderOf lowBits times overlayOf over frames.replyRanged frames.allCallReplyRanged frames.selective frames.allCall frames.aReply frames.anAllCallReply frames.replying frames.allCallReplying headOf midOf selectiveHead allCallHead replyHead allCallReplyHead front sealed readAs selectiveRead allCallRead surveillanceRead codeFor drawn started messagesWith messagesAfter timerAfter timersAfter lapse startedByLOS startedByLSS commandOfSD commanded lockout lockedTo reserve closeout sending respond drawsBelow answers answerAllCall newborn makeRanged making queuing steps interrogated laidOver heardSelective heardAllCall taking after checked reserving closing told lastCommand sentTo
 model-agrees = (refl, (refl, (refl, (refl, (refl, (refl, (refl, (refl, (refl, (refl, (refl, (refl, (refl, (refl, (refl, (refl, (refl, (refl, (refl, (refl, (refl, (refl, (refl, (refl, (refl, (refl, (refl, (refl, (refl, (refl, (refl, (refl, (refl, (refl, (refl, (refl, (refl, (refl, (refl, (refl, (refl, (refl, (refl, (refl, (refl, (refl, (refl, (refl, (refl, (refl, (refl, (refl, (refl, (refl, (refl, (refl, (refl, (refl, tt))))))))))))))))))))))))))))))))))))))))))))))))))))))))))

@@ -16,14 +16,14 @@ use Rattle.model_rules.specs.declared.state.Took.{Took}
 use Rattle.model_rules.specs.State.{waiting}
 use Rattle.model_rules.specs.Calls.{newborn, makeRanged, making, queuing, refusing, taking}
 use Rattle.model_rules.specs.History.{Aircraft, made, Call, queue, take, answer}
-use Rattle.lists.specs.Checks.{given}
+use Rattle.lists.specs.Checks.{checked, given}
 use Rattle.model_rules.specs.Story.{Told}
 use Rattle.model_rules.specs.Numbers.{inRange, makingChecks}
 use Rattle.model_rules.specs.Seen.{numberOn}
 
 -- ---- a making
 pub making-number : (a : Aircraft) → made a .number ≡ given (makingChecks a)
-unfolding making makeRanged given
+unfolding making makeRanged checked
 making-number a = go (inRange a)
   where
     go : (b : Bool) → pick {A = Made} b (record { number = 0; transponder = newborn (a .address) (a .ac) (a .id) (a .fs) (a .ca) }) (record { number = 2; transponder = newborn 0 0 0 0 0 }) .number ≡ pick (not b) 2 0
@@ -54,7 +54,7 @@ module _ (t : Transponder) (s : Told) (clock : t .time ≡ s .time) (many : leng
   check false n m y e = refl
 
   frame-number : (time draw : ℕ) (f : List ℕ) → taking t time draw f .number ≡ numberOn s (take time draw f)
-  unfolding taking given
+  unfolding taking checked
   frame-number time draw f =
       check (whole (length f)) 1 _ _
       (check (leb draw 15) 2 _ _
@@ -63,7 +63,7 @@ module _ (t : Transponder) (s : Told) (clock : t .time ≡ s .time) (many : leng
 
   -- a message
   message-number : (m : List ℕ) (b : AreBytes m) → length (waiting (t .messages)) ≤ 8 → queuing t m .number ≡ numberOn s (queue m b)
-  unfolding queuing given
+  unfolding queuing checked
   message-number m b h = rw (← many, ← full (length (waiting (t .messages))) h) (go (eqb (length m) 7) (leb 8 (length (waiting (t .messages)))) _)
     where
       go : (x y : Bool) (u : Transponder) → pick {A = Queued} x (pick y (record { number = 6; transponder = t }) (record { number = 0; transponder = u })) (record { number = 1; transponder = t }) .number ≡ pick (not x) 1 (pick y 6 0)

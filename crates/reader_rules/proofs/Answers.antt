@@ -7,7 +7,7 @@ use mathlib.Core.List.{List}
 use lib.Dec.{eqb, leb, ltb}
 use lib.ListN.{length, getD}
 use Rattle.lists.specs.Lists.{pick}
-use Rattle.lists.specs.Checks.{given}
+use Rattle.lists.specs.Checks.{checked, given}
 use Rattle.reader_rules.specs.declared.reading.Found.{Found}
 use Rattle.reader_rules.specs.declared.reading.Found.the-variants.{End, Unknown, Cut, Whole}
 use Rattle.reader_rules.specs.Records.{bodyLength, recordAt}
@@ -54,7 +54,7 @@ within n place = go (leb n place) refl
     go false e = lt-ltb place n (leb-false n place e)
 
 pub number-at : (s : List ℕ) (place : ℕ) → toldAt s place .number ≡ given (placeChecks s place)
-unfolding toldAt recordAt given
+unfolding toldAt recordAt checked
 number-at s place =
     rw (within (length s) place)
     (number-by (leb (length s) place) (eqb (bodyLength (getD s place 0)) 0) (ltb (length s - (place + 1)) (bodyLength (getD s place 0)))

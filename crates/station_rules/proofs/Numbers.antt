@@ -26,7 +26,7 @@ use Rattle.station_rules.specs.State.{inList, entriesOf, noEntry, emptie
 use Rattle.station_rules.specs.Calls as calls
 use Rattle.station_rules.specs.Replies.{expected, entryNumbered, isOpen, startOf, inWindow, ofFormat, Replied, refusedReply, settled, corrected, replied}
 use Rattle.station_rules.specs.History.{Call, setup, new, remove, move, request, plan, reply, report, answer, after}
-use Rattle.lists.specs.Checks.{given}
+use Rattle.lists.specs.Checks.{checked, given}
 use Rattle.station_rules.specs.Numbers.{setupRanged, sharesGood, requestNumbered, replyChecks, checks}
 use Rattle.station_rules.specs.Kept.{Entered, Kept}
 use Rattle.station_rules.proofs.Keeping.{always-kept, request-in, six}
@@ -122,7 +122,7 @@ module _ (msg marks out : List ℕ) (overlay limit f : ℕ) (hs : sized (length 
       go false = refl
 
 reply-number : (s : Station) → Kept s → (k tag : ℕ) (msg marks out : List ℕ) → replied s k tag msg marks out .number ≡ given (replyChecks s (requestNumbered k s) k tag msg marks out)
-unfolding replied corrected given replyChecks
+unfolding replied corrected checked replyChecks
 reply-number s h k tag msg marks out =
     check-reply s out (not (sized (length msg) (length marks) (length out))) 1 _ _
     (λ hs. check-reply s out (not (ltb k (length (entriesOf (s .plan))))) 7 _ _
@@ -136,7 +136,7 @@ reply-number s h k tag msg marks out =
 
 -- ---- the theorem
 pub numbers : (cs : List Call) (c : Call) → answer (after cs) c .number ≡ given (checks (after cs) c)
-unfolding given calls.setUp calls.newTarget calls.removed calls.moved calls.requested calls.reported
+unfolding checked calls.setUp calls.newTarget calls.removed calls.moved calls.requested calls.reported
 numbers cs (setup h) = given-as (after cs) (shares.setupNumber h) (emptied h (after cs)) ∙ judged-is h
 numbers cs (new a near far) =
     check (after cs) (not (calls.targetRanged a near far (after cs .setup .reach))) 2 _ _

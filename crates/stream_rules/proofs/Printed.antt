@@ -8,7 +8,7 @@ use lib.IntN.{ℤ, subℕ}
 use lib.ListN.{getD}
 use borrow.Author.Tests.{eqb-true}
 use Rattle.lists.specs.Lists.{pick}
-use Rattle.lists.specs.Checks.{given}
+use Rattle.lists.specs.Checks.{checked, given}
 use Rattle.lists.proofs.Held.{all-nil, all-cons}
 use Rattle.text_rules.specs.Put.{decimal}
 use Rattle.text_rules.specs.Signed.{signedDecimal}
@@ -71,7 +71,7 @@ reply-number n kind r false e = alone n kind (r .number)
 
 -- it is the one that the table gives the call
 call-number : (n kind : ℕ) (cs : List Call) (c : Call) → NumberPrinted n kind (numberGiven cs c) (linesFor n kind (after cs) c)
-unfolding given
+unfolding checked
 call-number n kind cs (setup h) = rw (demand1 cs .numbers (setup h)) (alone n kind (numberGiven cs (setup h)))
 call-number n kind cs (new a near far) = rw (demand1 cs .numbers (new a near far)) (alone n kind (numberGiven cs (new a near far)))
 call-number n kind cs (remove a) = rw (demand1 cs .numbers (remove a)) (alone n kind (numberGiven cs (remove a)))

@@ -7,7 +7,7 @@ use lib.Dec.{eqb}
 use lib.ListN.{getD, set}
 use borrow.Author.Tests.{eqb-true, eqb-false, eq-eqb, ne-eqb}
 use Rattle.lists.specs.Lists.{pick, filter}
-use Rattle.lists.specs.Checks.{given}
+use Rattle.lists.specs.Checks.{checked, given}
 use Rattle.lists.proofs.Held.{all-map}
 use Rattle.lists.proofs.Each.{image-set, image-at, image-same, image-through}
 use Rattle.planner_rules.specs.declared.request.Request.{Request}
@@ -278,7 +278,7 @@ module _ (cs : List Call) (e tag : ℕ) (msg marks out : List ℕ) where
 
 event-read : (cs : List Call) (c : Call)
     → eventFor (events cs) (knownBy (shownOf cs)) c (numberGiven cs c) (map entryShown (entriesMade (after cs) c)) ≡ event (after cs) c
-unfolding given
+unfolding checked
 event-read cs (calls.setup h) = ap (plainEvent (calls.setup h)) (sym (demand1 cs .numbers (calls.setup h)))
 event-read cs (calls.new a near far) = ap (plainEvent (calls.new a near far)) (sym (demand1 cs .numbers (calls.new a near far)))
 event-read cs (calls.remove a) = ap (plainEvent (calls.remove a)) (sym (demand1 cs .numbers (calls.remove a)))
