@@ -84,7 +84,8 @@ module _ (ac : ℕ) (h : ac < 8192) (f : formOf ac ≡ by100) where
 
   in-reach : (0 < above ac) × (above ac < 1281)
   in-reach =
-      let t = and-true (ltb 0 (above ac)) (ltb (above ac) 1281) (and-true (eqb (hundredCode (above ac - 1)) ac) (ltb 0 (above ac) && ltb (above ac) 1281) tried .1) in
+      let t = and-true (ltb 0 (above ac)) (ltb (above ac) 1281)
+      (and-true (eqb (hundredCode (above ac - 1)) ac) (ltb 0 (above ac) && ltb (above ac) 1281) tried .1) in
       (ltb-true 0 (above ac) (t .0), ltb-true (above ac) 1281 (t .1))
 
 feet-is : (ac : ℕ) → feetBy100 ac ≡ subℕ (100 * above ac) 1300

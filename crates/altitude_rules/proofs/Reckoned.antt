@@ -69,7 +69,8 @@ module _ (d2 d4 a1 a2 a4 b1 b2 b4 : ℕ) where
   pub three-groups : (d2 * 2 + d4) * 64 + (a1 * 4 + a2 * 2 + a4) * 8 + (b1 * 4 + b2 * 2 + b4) ≡ spelled 0 (d2 ∷ d4 ∷ a1 ∷ a2 ∷ a4 ∷ b1 ∷ b2 ∷ b4 ∷ [])
   three-groups = omega arith
 
-  pub three-groups-lt : d2 < 2 → d4 < 2 → a1 < 2 → a2 < 2 → a4 < 2 → b1 < 2 → b2 < 2 → b4 < 2 → (d2 * 2 + d4) * 64 + (a1 * 4 + a2 * 2 + a4) * 8 + (b1 * 4 + b2 * 2 + b4) < 256
+  pub three-groups-lt : d2 < 2 → d4 < 2 → a1 < 2 → a2 < 2 → a4 < 2 → b1 < 2 → b2 < 2 → b4 < 2
+      → (d2 * 2 + d4) * 64 + (a1 * 4 + a2 * 2 + a4) * 8 + (b1 * 4 + b2 * 2 + b4) < 256
   three-groups-lt h1 h2 h3 h4 h5 h6 h7 h8 = omega arith
 
 -- ---- how large the parts are

@@ -1,6 +1,6 @@
 // The line `model ADDRESS AC ID FS CA`.
 ghost use Rattle.text_rules.specs.Line.{wordsOf};
-ghost use Rattle.console_rules.specs.Aircraft.{Showed, madeSaid, modelSaid};
+ghost use Rattle.console_rules.specs.Aircraft.{Showed, madeSaid, modelMore, modelSaid};
 use crate::answers::put_number;
 use crate::answers::put_unread;
 use console_rules::Aircraft;
@@ -24,6 +24,19 @@ fn put_made(a: Aircraft, m: Made, out: &mut [u8]) -> Shown
     put_number(number, flying, out)
 }
 
+// FS and CA behind the other numbers, and the aircraft that is made of them.
+fn put_more(line: &[u8], a: Aircraft, address: u32, ac: u32, id: u32, out: &mut [u8]) -> Shown
+    ensures { λ r. ⌜ Showed (modelMore a address ac id (wordsOf (now (line .entry)))) (now (out .entry)) (now (out .exit)) r ⌝ }
+{
+    let Number::Is(fs) = console_plain::number_at(line, 4) else {
+        return put_unread(a, out);
+    };
+    let Number::Is(ca) = console_plain::number_at(line, 5) else {
+        return put_unread(a, out);
+    };
+    put_made(a, model::make(address, ac, id, fs, ca), out)
+}
+
 // Makes the aircraft.
 pub fn put_model(line: &[u8], a: Aircraft, out: &mut [u8]) -> Shown
     ensures { λ r. ⌜ Showed (modelSaid a (wordsOf (now (line .entry)))) (now (out .entry)) (now (out .exit)) r ⌝ }
@@ -37,11 +50,5 @@ pub fn put_model(line: &[u8], a: Aircraft, out: &mut [u8]) -> Shown
     let Number::Is(id) = console_plain::number_at(line, 3) else {
         return put_unread(a, out);
     };
-    let Number::Is(fs) = console_plain::number_at(line, 4) else {
-        return put_unread(a, out);
-    };
-    let Number::Is(ca) = console_plain::number_at(line, 5) else {
-        return put_unread(a, out);
-    };
-    put_made(a, model::make(address, ac, id, fs, ca), out)
+    put_more(line, a, address, ac, id, out)
 }

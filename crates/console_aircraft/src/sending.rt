@@ -2,7 +2,7 @@
 ghost use lib.ListN.{take};
 ghost use Rattle.text_rules.specs.Put.{Put};
 ghost use Rattle.text_rules.specs.Line.{wordsOf};
-ghost use Rattle.console_rules.specs.Aircraft.{Showed, sentText, tookSaid, sendSaid};
+ghost use Rattle.console_rules.specs.Aircraft.{Showed, sentText, tookSaid, frameSaid, sendSaid};
 use crate::answers::put_number;
 use crate::answers::put_unread;
 use console_rules::Aircraft;
@@ -47,6 +47,18 @@ fn put_took(k: Took, out: &mut [u8]) -> Shown
     }
 }
 
+// The frame of the line, sent at a time with a draw.
+fn put_frame(line: &[u8], a: Aircraft, time: u32, draw: u32, out: &mut [u8]) -> Shown
+    ensures { λ r. ⌜ Showed (frameSaid a time draw (wordsOf (now (line .entry)))) (now (out .entry)) (now (out .exit)) r ⌝ }
+{
+    let mut frame = [0u8; 32];
+    let Hex::Bytes(n) = console_plain::bytes_at(line, 3, &mut frame) else {
+        return put_unread(a, out);
+    };
+    let t = a.transponder;
+    put_took(model::take(t, time, draw, &frame[..n]), out)
+}
+
 // Sends a frame to the aircraft.
 pub fn put_send(line: &[u8], a: Aircraft, out: &mut [u8]) -> Shown
     ensures { λ r. ⌜ Showed (sendSaid a (wordsOf (now (line .entry)))) (now (out .entry)) (now (out .exit)) r ⌝ }
@@ -60,10 +72,5 @@ pub fn put_send(line: &[u8], a: Aircraft, out: &mut [u8]) -> Shown
     let Number::Is(draw) = console_plain::number_at(line, 2) else {
         return put_unread(a, out);
     };
-    let mut frame = [0u8; 32];
-    let Hex::Bytes(n) = console_plain::bytes_at(line, 3, &mut frame) else {
-        return put_unread(a, out);
-    };
-    let t = a.transponder;
-    put_took(model::take(t, time, draw, &frame[..n]), out)
+    put_frame(line, a, time, draw, out)
 }

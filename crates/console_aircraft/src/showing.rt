@@ -2,7 +2,7 @@
 ghost use Prim.Native.Nat.{_≤_};
 ghost use lib.ListN.{length};
 ghost use Rattle.text_rules.specs.Put.{Put};
-ghost use Rattle.console_rules.specs.Aircraft.{Showed, holderText, lockText, locksText, stateText, stateSaid};
+ghost use Rattle.console_rules.specs.Aircraft.{Showed, Brief, holderText, lockText, locksText, heldText, shownText, stateText, stateSaid};
 use crate::answers::put_unread;
 use console_rules::Aircraft;
 use console_rules::Shown;
@@ -55,22 +55,36 @@ fn put_locks(out: &mut [u8], at: usize, timers: Timers) -> usize
     next
 }
 
-// 0, the time, the holder, how many messages wait, and the codes that are locked.
+// The holder, how many messages wait, and the codes that are locked.
+fn put_held(out: &mut [u8], at: usize, holder: Holder, queued: u32, timers: Timers) -> usize
+    ensures { λ r. ⌜ Put (heldText holder queued (timers .list)) at (now (out .entry)) (now (out .exit)) r × (length (holderText holder) ≤ 3) ⌝ }
+{
+    let at_holder = text::put_byte(out, at, 32);
+    let after_holder = put_holder(out, at_holder, holder);
+    let at_queued = text::put_byte(out, after_holder, 32);
+    let at_locks = text::put_decimal(out, at_queued, queued);
+    put_locks(out, at_locks, timers)
+}
+
+// 0, the time, and what the aircraft holds.
+fn put_shown(out: &mut [u8], time: u32, holder: Holder, queued: u32, timers: Timers) -> usize
+    ensures { λ r. ⌜ Brief (shownText time holder queued (timers .list)) (now (out .entry)) (now (out .exit)) r ⌝ }
+{
+    let at_time = text::put_bytes(out, 0, b"0 ");
+    let after_time = text::put_decimal(out, at_time, time);
+    let end = put_held(out, after_time, holder, queued, timers);
+    text::put_byte(out, end, 10)
+}
+
+// The transponder's parts.
 fn put_transponder(t: Transponder, out: &mut [u8]) -> usize
-    ensures { λ r. ⌜ Put (stateText t) 0 (now (out .entry)) (now (out .exit)) r × (length (stateText t) ≤ 512) ⌝ }
+    ensures { λ r. ⌜ Brief (stateText t) (now (out .entry)) (now (out .exit)) r ⌝ }
 {
     let messages = t.messages;
     let queued = model::count(messages) as u32;
     let holder = t.holder;
     let timers = t.timers;
-    let at_time = text::put_bytes(out, 0, b"0 ");
-    let after_time = text::put_decimal(out, at_time, t.time);
-    let at_holder = text::put_byte(out, after_time, 32);
-    let after_holder = put_holder(out, at_holder, holder);
-    let at_queued = text::put_byte(out, after_holder, 32);
-    let at_locks = text::put_decimal(out, at_queued, queued);
-    let end = put_locks(out, at_locks, timers);
-    text::put_byte(out, end, 10)
+    put_shown(out, t.time, holder, queued, timers)
 }
 
 // Shows the aircraft.

@@ -1,20 +1,31 @@
 -- What a line says by its words: nothing for none and for a comment, else what its call says.
-use Prim.Native.Nat.{ℕ, _-_, _+_, _≤_, min}
+use Prim.Native.Nat.{ℕ, _-_, _+_, _≤_, _<_, min}
 use native.Mathlib.Omega.{arith}
 use mathlib.Core.Path.{_≡_, refl, sym, ap, _∙_}
-use mathlib.Core.Bool.{true, false}
+use mathlib.Core.Bool.{Bool, true, false}
 use mathlib.Core.List.{List, [], _∷_}
 use lib.Dec.{eqb}
 use lib.ListN.{length, getD, take, drop}
-use Rattle.text_rules.specs.Line.{wordsOf, within, LineHeld}
+use borrow.Author.Tests.{eq-eqb, ne-eqb}
+use Rattle.lists.specs.Lists.{pick}
+use Rattle.text_rules.specs.Line.{wordsOf, within, sameAs, LineHeld, NthWord}
 use Rattle.text_rules.specs.Put.{Put}
 use Rattle.text_rules.specs.declared.answer.Span.{Span}
+use Rattle.text_rules.proofs.Laid.{put-none}
 use Rattle.text_rules.proofs.Run.{took}
-use Rattle.console_rules.specs.Texts.{word}
+use Rattle.console_plain.proofs.Texts.{word-of}
+use Rattle.console_rules.proofs.Short.{unread-fits, remainder-fits, overlay-fits, correct-fits, build-fits}
+use Rattle.console_rules.proofs.Short.{all-call-frame-fits, up-fits, down-fits, code-fits, feet-fits}
+use Rattle.console_rules.specs.Texts.{word, unread}
 use Rattle.console_rules.specs.declared.state.Aircraft.{Aircraft}
 use Rattle.console_rules.specs.declared.state.Shown.{Shown}
+use Rattle.console_rules.specs.declared.names.Command.{Command}
+use Rattle.console_rules.specs.Help.{helpText}
+use Rattle.console_rules.specs.declared.names.Command.the-variants.{Unknown}
+use Rattle.console_rules.specs.Names.{table, rowCount, rowAt, commandIn, commandOf, wordsFor}
+use Rattle.console_rules.proofs.Table.{row-taken, row-passed, no-rows}
 use Rattle.console_rules.specs.Aircraft.{saying, Showed}
-use Rattle.console_rules.specs.Console.{Answered, comment, commandSaid, wordsSaid, lineSaid, lineText, lineLeaves}
+use Rattle.console_rules.specs.Console.{Answered, comment, callSaid, countedSaid, commandSaid, wordsSaid, lineSaid, lineText, lineLeaves}
 
 -- the first byte of a word
 pub comment-none : (w : List ℕ) → length w ≡ 0 → false ≡ comment w
@@ -34,6 +45,10 @@ pub stays : {t : List ℕ} {a : Aircraft} {size : ℕ} {l m : List ℕ} {r : Sho
     → Showed (saying t a) l m r
 stays e p h = rw e (record { text-put = p; aircraft = refl; short = h })
 
+-- no text was laid
+pub stays-silent : {a : Aircraft} {l : List ℕ} {r : Shown} → r ≡ record { size = 0; aircraft = a } → Showed (saying [] a) l l r
+stays-silent {a} {l} e = stays e (put-none 0 l (omega arith)) (omega arith)
+
 -- the line's span found, what it says shown, and the place behind it: the line was answered
 pub answered-line : (a : Aircraft) {s : List ℕ} {at : ℕ} {before after : List ℕ} {w : Span} {n : ℕ} {x : Shown}
     → LineHeld s at w → n ≡ min (length s) (w .to + 1) → Showed (lineSaid a (take (w .to - w .from) (drop (w .from) s))) before after x
@@ -45,6 +60,50 @@ answered-line a h e p =
       aircraft = p .aircraft ∙ ap (lineLeaves a) (h .text);
       short = rw (h .text) at (p .short);
     }
+
+-- `search fits` finds that a text fits
+pub help-fits : length helpText ≤ 512
+help-fits = omega arith
+
+pub ruleset fits =
+    (unread-fits, remainder-fits, overlay-fits, correct-fits, build-fits, all-call-frame-fits, up-fits, down-fits, code-fits, feet-fits, help-fits)
+
+-- ---- the call that the first word names
+
+pub its-call : (a : Aircraft) (ws : List (List ℕ)) {c d : Command} {l m : List ℕ} {s : Shown} → c ≡ d → Showed (callSaid d a ws) l m s
+    → Showed (callSaid c a ws) l m s
+its-call a ws e p = rw e p
+
+-- w is the first word, c its call, n how many words there are, and k how many the call has
+module _ (a : Aircraft) (ws : List (List ℕ)) {w : List ℕ} {c : Command} {n k : ℕ} where
+  module _ (first : w ≡ word 0 ws) (found : c ≡ commandOf w) (count : n ≡ length ws) (wanted : k ≡ wordsFor c) where
+    by-count : {b : Bool} → eqb n k ≡ b → commandSaid a ws ≡ pick b (callSaid c a ws) (saying unread a)
+    unfolding commandSaid countedSaid
+    by-count e = rw (← first, ← found, ← count, ← wanted, e)
+
+    module _ {l m : List ℕ} {s : Shown} where
+      pub counted : n ≡ k → Showed (callSaid c a ws) l m s → Showed (commandSaid a ws) l m s
+      counted e p = rw (by-count (eq-eqb n k e)) p
+
+      pub miscounted : (n ≡ k → ⊥) → Showed (saying unread a) l m s → Showed (commandSaid a ws) l m s
+      miscounted e p = rw (by-count (ne-eqb n k e)) p
+
+pub ruleset calls = (counted, miscounted)
+
+-- ---- `search rows` finds the call of a name, row by row: what the rows from k on say is what all of them say
+
+module _ (w : List ℕ) (k : ℕ) (e : commandOf w ≡ commandIn w (drop k table)) where
+  module _ {b : Bool} (h : k < rowCount) (same : b ≡ sameAs w (rowAt k .name)) where
+    pub row-found : {c : Command} → b ≡ true → c ≡ rowAt k .command → c ≡ commandOf w
+    row-found t f = f ∙ sym (row-taken w k h e (sym same ∙ t))
+
+    pub row-other : b ≡ false → commandOf w ≡ commandIn w (drop (k + 1) table)
+    row-other t = row-passed w k h e (sym same ∙ t)
+
+  pub rows-over : k ≤ rowCount → rowCount ≤ k → Unknown ≡ commandOf w
+  rows-over h n = sym (no-rows w k e (omega arith))
+
+pub ruleset rows = (row-found, row-other, rows-over)
 
 -- ---- a line by its words
 
@@ -63,16 +122,23 @@ unfolding wordsSaid word
 answered-by a [] n h = absurd (n refl)
 answered-by a (w ∷ ws) n h = rw h
 
-module _ (a : Aircraft) (line : List ℕ) where
-  pub no-words : length (wordsOf line) ≡ 0 → lineSaid a line ≡ saying [] a
-  unfolding lineSaid
-  no-words e = none-by a (wordsOf line) e
+pub no-words : (a : Aircraft) (line : List ℕ) {n : ℕ} {l m : List ℕ} {s : Shown} → n ≡ length (wordsOf line) → n ≡ 0 → Showed (saying [] a) l m s
+    → Showed (lineSaid a line) l m s
+unfolding lineSaid
+no-words a line e h p = rw (none-by a (wordsOf line) (sym e ∙ h)) p
 
-  module _ {w : List ℕ} (e : w ≡ word 0 (wordsOf line)) where
-    pub silent : comment w ≡ true → lineSaid a line ≡ saying [] a
-    unfolding lineSaid
-    silent h = silent-by a (wordsOf line) (ap comment (sym e) ∙ h)
+module _ (line : List ℕ) {w : Span} {b : Bool} (first : NthWord line 0 w) (told : b ≡ comment (take (w .to - w .from) (drop (w .from) line))) where
+  at-first : {v : Bool} → b ≡ v → comment (word 0 (wordsOf line)) ≡ v
+  at-first h = ap comment (sym (word-of first)) ∙ sym told ∙ h
 
-    pub answered : (length (wordsOf line) ≡ 0 → ⊥) → comment w ≡ false → lineSaid a line ≡ commandSaid a (wordsOf line)
+  module _ (a : Aircraft) {l m : List ℕ} {s : Shown} where
+    pub silent : b ≡ true → Showed (saying [] a) l m s → Showed (lineSaid a line) l m s
     unfolding lineSaid
-    answered n h = answered-by a (wordsOf line) n (ap comment (sym e) ∙ h)
+    silent h p = rw (silent-by a (wordsOf line) (at-first h)) p
+
+    pub answered : {n : ℕ} → b ≡ false → n ≡ length (wordsOf line) → (n ≡ 0 → ⊥) → Showed (commandSaid a (wordsOf line)) l m s
+        → Showed (lineSaid a line) l m s
+    unfolding lineSaid
+    answered h e k p = rw (answered-by a (wordsOf line) (λ z. k (e ∙ z)) (at-first h)) p
+
+pub ruleset lines = (no-words, silent, answered)

@@ -8,8 +8,8 @@ use crate::help::put_help;
 use crate::names::find_command;
 use crate::names::words_for;
 use console_rules::Aircraft;
-use console_rules::Answer;
 use console_rules::Command;
+use console_rules::Served;
 use console_rules::Shown;
 
 // A text was laid, and the aircraft stays as it was.
@@ -81,7 +81,7 @@ fn put_line(line: &[u8], a: Aircraft, out: &mut [u8]) -> Shown
 }
 
 // The line of s that begins at a place, as the text that the console prints for it, and the aircraft that it leaves.
-pub fn console_line(a: Aircraft, s: &[u8], at: usize, out: &mut [u8]) -> Answer
+pub fn console_line(a: Aircraft, s: &[u8], at: usize, out: &mut [u8]) -> Served
     ensures { λ r. ⌜ Answered a (now (s .entry)) at (now (out .entry)) (now (out .exit)) r ⌝ }
 {
     let line = text::line_at(s, at);
@@ -91,7 +91,7 @@ pub fn console_line(a: Aircraft, s: &[u8], at: usize, out: &mut [u8]) -> Answer
     let next = text::line_after(s, to);
     let size = shown.size;
     let aircraft = shown.aircraft;
-    Answer {
+    Served {
         next,
         size,
         aircraft,

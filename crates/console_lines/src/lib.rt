@@ -4,4 +4,4 @@ mod help;
 mod names;
 
 pub use console::console_line;
-pub use console_rules::Answer;
+pub use console_rules::Served;

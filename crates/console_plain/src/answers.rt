@@ -1,7 +1,7 @@
 // The text of an answer, laid at the front of a lent buffer.
 ghost use Rattle.text_rules.specs.Put.{Put};
 ghost use Rattle.text_rules.specs.Hex.{hexIn};
-ghost use Rattle.parity_rules.specs.Answers.{answered};
+ghost use Rattle.parity_rules.specs.Answers.{reckonedSaid};
 ghost use Rattle.console_rules.specs.Texts.{unread, doneText, refusalText};
 ghost use Rattle.console_rules.specs.Parity.{reckonedText};
 use parity::Reckoned;
@@ -32,7 +32,7 @@ fn put_six_digits(out: &mut [u8], n: u32) -> usize
 
 // A reckoned number, or its refusal.
 pub(crate) fn put_reckoned(out: &mut [u8], a: Reckoned) -> usize
-    ensures { λ r. ⌜ Put (reckonedText (answered a)) 0 (now (out .entry)) (now (out .exit)) r ⌝ }
+    ensures { λ r. ⌜ Put (reckonedText (reckonedSaid a)) 0 (now (out .entry)) (now (out .exit)) r ⌝ }
 {
     match a {
         Reckoned::Is(n) => put_six_digits(out, n),

@@ -1,8 +1,8 @@
 // The lines `build UF PC RR DI SD MA ADDRESS` and `allcall PR IC CL`.
 ghost use Rattle.text_rules.specs.Put.{Put};
 ghost use Rattle.text_rules.specs.Line.{wordsOf};
-ghost use Rattle.frames_rules.specs.Answers.{said};
-ghost use Rattle.console_rules.specs.Building.{builtText, selectiveText, buildText, allCallText};
+ghost use Rattle.frames_rules.specs.Answers.{builtSaid};
+ghost use Rattle.console_rules.specs.Building.{builtText, selectiveText, addressedText, buildText, allCallText};
 use crate::answers::put_refusal;
 use crate::answers::put_unread;
 use crate::values::is_long;
@@ -14,7 +14,7 @@ use text_rules::Number;
 
 // The frame that was built, or the refusal.
 fn put_built(out: &mut [u8], b: Built, frame: &[u8]) -> usize
-    ensures { λ r. ⌜ Put (builtText (said b (now (frame .entry)))) 0 (now (out .entry)) (now (out .exit)) r ⌝ }
+    ensures { λ r. ⌜ Put (builtText (builtSaid b (now (frame .entry)))) 0 (now (out .entry)) (now (out .exit)) r ⌝ }
 {
     match b {
         Built::Done => {
@@ -50,7 +50,21 @@ fn put_selective(
     put_built(out, b, &frame)
 }
 
-// The fields of a selective interrogation, MA as its bytes, and the address.
+// MA as its bytes, and the address, behind the fields.
+fn put_addressed(line: &[u8], out: &mut [u8], uf: u32, pc: u32, rr: u32, di: u32, sd: u32) -> usize
+    ensures { λ r. ⌜ Put (addressedText uf pc rr di sd (wordsOf (now (line .entry)))) 0 (now (out .entry)) (now (out .exit)) r ⌝ }
+{
+    let mut ma = [0u8; 32];
+    let Hex::Bytes(n) = bytes_at(line, 6, &mut ma) else {
+        return put_unread(out);
+    };
+    let Number::Is(address) = number_at(line, 7) else {
+        return put_unread(out);
+    };
+    put_selective(out, uf, pc, rr, di, sd, &ma[..n], address)
+}
+
+// The fields of a selective interrogation, then MA and the address.
 pub fn put_build(line: &[u8], out: &mut [u8]) -> usize
     ensures { λ r. ⌜ Put (buildText (wordsOf (now (line .entry)))) 0 (now (out .entry)) (now (out .exit)) r ⌝ }
 {
@@ -69,14 +83,7 @@ pub fn put_build(line: &[u8], out: &mut [u8]) -> usize
     let Number::Is(sd) = number_at(line, 5) else {
         return put_unread(out);
     };
-    let mut ma = [0u8; 32];
-    let Hex::Bytes(n) = bytes_at(line, 6, &mut ma) else {
-        return put_unread(out);
-    };
-    let Number::Is(address) = number_at(line, 7) else {
-        return put_unread(out);
-    };
-    put_selective(out, uf, pc, rr, di, sd, &ma[..n], address)
+    put_addressed(line, out, uf, pc, rr, di, sd)
 }
 
 // The fields of an all-call.

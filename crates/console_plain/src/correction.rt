@@ -3,7 +3,7 @@ ghost use mathlib.Core.Path.{_≡_};
 ghost use lib.ListN.{length, replicate};
 ghost use Rattle.text_rules.specs.Put.{Put};
 ghost use Rattle.text_rules.specs.Line.{wordsOf};
-ghost use Rattle.parity_rules.specs.Answers.{said};
+ghost use Rattle.parity_rules.specs.Answers.{fixSaid};
 ghost use Rattle.console_rules.specs.Parity.{correctedText, fixedText, correctText};
 use crate::answers::put_refusal;
 use crate::answers::put_unread;
@@ -15,7 +15,7 @@ use text_rules::Number;
 
 // The corrected message and its flips, or the refusal.
 fn put_corrected(out: &mut [u8], f: Fix, fixed: &[u8]) -> usize
-    ensures { λ r. ⌜ Put (correctedText (said f (now (fixed .entry)))) 0 (now (out .entry)) (now (out .exit)) r ⌝ }
+    ensures { λ r. ⌜ Put (correctedText (fixSaid f (now (fixed .entry)))) 0 (now (out .entry)) (now (out .exit)) r ⌝ }
 {
     match f {
         Fix::Flips(n) => {

@@ -1,28 +1,15 @@
 // The lines `up HEX` and `down HEX`.
-ghost use mathlib.Core.List.{_∷_, []};
 ghost use Rattle.text_rules.specs.Put.{Put};
 ghost use Rattle.text_rules.specs.Line.{wordsOf};
-ghost use Rattle.console_rules.specs.Texts.{doneText};
-ghost use Rattle.console_rules.specs.Frames.{fieldsText, interrogationText, replyText, upText, downText};
+ghost use Rattle.console_rules.specs.Frames.{interrogationText, replyText, upText, downText};
 use crate::answers::put_refusal;
 use crate::answers::put_unread;
-use crate::values::put_number;
+use crate::values::put_eleven;
 use crate::values::put_seven;
 use crate::words::bytes_at;
 use frames::Down;
 use frames::Up;
 use text_rules::Hex;
-
-// The values of DF 11.
-fn put_all_call_reply(out: &mut [u8], ca: u32, address: u32, remainder: u32) -> usize
-    ensures { λ r. ⌜ Put (doneText (fieldsText (11 ∷ ca ∷ address ∷ remainder ∷ []))) 0 (now (out .entry)) (now (out .exit)) r ⌝ }
-{
-    let at_ca = text::put_bytes(out, 0, b"0 11 ");
-    let at_address = put_number(out, at_ca, ca);
-    let at_end = put_number(out, at_address, address);
-    let end = text::put_hex6(out, at_end, remainder);
-    text::put_byte(out, end, 10)
-}
 
 // A reply's values, or the refusal.
 fn put_reply(out: &mut [u8], msg: &[u8]) -> usize
@@ -51,7 +38,10 @@ fn put_reply(out: &mut [u8], msg: &[u8]) -> usize
             ca,
             address,
             remainder,
-        } => put_all_call_reply(out, ca as u32, address, remainder),
+        } => {
+            let numbers = [11, ca as u32, address];
+            put_eleven(out, &numbers, remainder)
+        }
         Down::Length => put_refusal(out, 1),
         Down::Format => put_refusal(out, 14),
     }
@@ -66,18 +56,6 @@ pub fn put_down(line: &[u8], out: &mut [u8]) -> usize
         Hex::Bytes(n) => put_reply(out, &msg[..n]),
         Hex::Not => put_unread(out),
     }
-}
-
-// The values of UF 11.
-fn put_all_call(out: &mut [u8], pr: u32, ic: u32, cl: u32, remainder: u32) -> usize
-    ensures { λ r. ⌜ Put (doneText (fieldsText (11 ∷ pr ∷ ic ∷ cl ∷ remainder ∷ []))) 0 (now (out .entry)) (now (out .exit)) r ⌝ }
-{
-    let at_pr = text::put_bytes(out, 0, b"0 11 ");
-    let at_ic = put_number(out, at_pr, pr);
-    let at_cl = put_number(out, at_ic, ic);
-    let at_end = put_number(out, at_cl, cl);
-    let end = text::put_hex6(out, at_end, remainder);
-    text::put_byte(out, end, 10)
 }
 
 // An interrogation's values, or the refusal.
@@ -108,7 +86,10 @@ fn put_interrogation(out: &mut [u8], msg: &[u8]) -> usize
             ic,
             cl,
             remainder,
-        } => put_all_call(out, pr as u32, ic as u32, cl as u32, remainder),
+        } => {
+            let numbers = [11, pr as u32, ic as u32, cl as u32];
+            put_eleven(out, &numbers, remainder)
+        }
         Up::Length => put_refusal(out, 1),
         Up::Format => put_refusal(out, 14),
     }

@@ -2,16 +2,33 @@
 ghost use mathlib.Core.Path.{_≡_};
 ghost use mathlib.Core.List.{_∷_, []};
 ghost use Rattle.text_rules.specs.Put.{Put};
+ghost use Rattle.text_rules.specs.Hex.{hexIn};
 ghost use Rattle.frames_rules.specs.Formats.{longFormat};
 ghost use Rattle.console_rules.specs.Texts.{doneText};
-ghost use Rattle.console_rules.specs.Frames.{numberText, endText, valuesText};
+ghost use Rattle.console_rules.specs.Frames.{numberText, numbersText, endText, valuesText};
 
 // A number, with a space behind it.
-pub(crate) fn put_number(out: &mut [u8], at: usize, n: u32) -> usize
+fn put_number(out: &mut [u8], at: usize, n: u32) -> usize
     ensures { λ r. ⌜ Put (numberText n) at (now (out .entry)) (now (out .exit)) r ⌝ }
 {
     let end = text::put_decimal(out, at, n);
     text::put_byte(out, end, 32)
+}
+
+// Numbers, each with a space behind it.
+pub(crate) fn put_numbers(out: &mut [u8], at: usize, numbers: &[u32]) -> usize
+    ensures { λ r. ⌜ Put (numbersText (now (numbers .entry)) []) at (now (out .entry)) (now (out .exit)) r ⌝ }
+{
+    if out.len() <= at {
+        return out.len();
+    }
+    let mut next = at;
+    let mut i: usize = 0;
+    while i < numbers.len() {
+        next = put_number(out, next, numbers[i]);
+        i += 1;
+    }
+    next
 }
 
 // Whether a format is long: 20 or 21.
@@ -49,12 +66,19 @@ pub(crate) fn put_seven(
 ) -> usize
     ensures { λ r. ⌜ Put (doneText (valuesText (f ∷ a ∷ b ∷ c ∷ d ∷ 0 ∷ remainder ∷ []) (now (part .entry)))) 0 (now (out .entry)) (now (out .exit)) r ⌝ }
 {
-    let at_f = text::put_bytes(out, 0, b"0 ");
-    let at_a = put_number(out, at_f, f);
-    let at_b = put_number(out, at_a, a);
-    let at_c = put_number(out, at_b, b);
-    let at_d = put_number(out, at_c, c);
-    let at_end = put_number(out, at_d, d);
-    let end = put_end(out, at_end, f, part, remainder);
+    let numbers = [f, a, b, c, d];
+    let first = text::put_bytes(out, 0, b"0 ");
+    let next = put_numbers(out, first, &numbers);
+    let end = put_end(out, next, f, part, remainder);
+    text::put_byte(out, end, 10)
+}
+
+// The values of format 11: numbers, and the remainder.
+pub(crate) fn put_eleven(out: &mut [u8], numbers: &[u32], remainder: u32) -> usize
+    ensures { λ r. ⌜ Put (doneText (numbersText (now (numbers .entry)) (hexIn 6 remainder))) 0 (now (out .entry)) (now (out .exit)) r ⌝ }
+{
+    let first = text::put_bytes(out, 0, b"0 ");
+    let next = put_numbers(out, first, numbers);
+    let end = text::put_hex6(out, next, remainder);
     text::put_byte(out, end, 10)
 }

@@ -5,6 +5,7 @@ use mathlib.Core.Path.{_≡_, refl}
 use mathlib.Core.Bool.{false}
 use mathlib.Core.List.{List, [], _∷_, _++_}
 use Rattle.lists.specs.Lists.{over}
+use Rattle.lists.specs.Checks.{checked}
 use Rattle.text_rules.specs.Plain.{plain}
 use Rattle.text_rules.specs.Put.{decimalIn, decimal}
 use Rattle.text_rules.specs.Line.{blank, newline, grown, parts, full, linesOf, wordsOf, sameAs}
@@ -16,14 +17,15 @@ use Rattle.parity_rules.specs.Overlays.{lowBits, times, overlayOf}
 use Rattle.frames_rules.specs.Fields.{headOf, midOf, replyHead, allCallReplyHead}
 use Rattle.frames_rules.specs.Frames.{front, sealed}
 use Rattle.frames_rules.specs.Building.{selectiveRanged, replyRanged, allCallReplyRanged, aReply, anAllCallReply, replying, allCallReplying}
-use Rattle.frames_rules.specs.Reading.{readAs, selectiveRead, allCallRead}
+use Rattle.lists.specs.Checks.{checked}
+use Rattle.frames_rules.specs.Interrogations.{upOf}
 use Rattle.frames_rules.specs.Shared.{codeFor, drawn}
 use Rattle.model_rules.specs.State.{started, messagesWith, messagesAfter}
 use Rattle.model_rules.specs.Lapse.{timerAfter, timersAfter, lapse}
 use Rattle.model_rules.specs.Lockout.{startedByLOS, startedByLSS, commandOfSD, commanded, lockout, lockedTo}
 use Rattle.model_rules.specs.CommB.{reserve, closeout}
 use Rattle.model_rules.specs.Replies.{sending, respond, drawsBelow, answers, answerAllCall}
-use Rattle.model_rules.specs.Calls.{newborn, makeRanged, making, queuing, steps, interrogated, laidOver, heardSelective, heardAllCall, taking}
+use Rattle.model_rules.specs.Calls.{newborn, makeRanged, making, queuing, steps, interrogated, laidOver, selectiveComes, allCallComes, comes, taking}
 use Rattle.console_rules.specs.Texts.{word, ofNumber, ofBytes, doneText, refusalText, answerText}
 use Rattle.console_rules.specs.Aircraft.{unmade, whenMade, madeSaid, modelSaid, queuedSaid, queueSaid, sentText, tookSaid, sendSaid, holderText, timerText, lockText, locksText, stateText, stateSaid}
 use Rattle.console_rules.specs.Names.{table, commandIn, commandOf, wordsFor}
@@ -52,7 +54,7 @@ Printed ts = consoleText (lines ts) ≡ texts ts
 
 -- before any model there is no aircraft, and what stands in its place is that of a making that is refused
 no-aircraft : unmade ≡ record { made = false; transponder = making 0 0 0 0 0 .transponder }
-unfolding unmade newborn makeRanged making
+unfolding checked unmade newborn makeRanged making
 no-aircraft = refl
 
 -- no aircraft before a model, nor after one that is refused
@@ -122,5 +124,5 @@ refusals =
     ∷ []
 
 runs-printed : Printed begun × Printed locking × Printed codes × Printed delivery × Printed refusals
-unfolding consoleText linesText linesOf newline lineSaid wordsSaid commandSaid countedSaid callSaid comment commandOf commandIn table wordsFor word wordsOf parts full grown blank sameAs ofNumber ofBytes numberIn allDigits valueAfter bytesIn isHex allHex hexValue pairs isDigit between answerText doneText refusalText decimal decimalIn hexIn hexOf hexDigit bits shiftIn divide remainderOf lowBits times overlayOf selectiveRanged replyRanged allCallReplyRanged aReply anAllCallReply replying allCallReplying headOf midOf replyHead allCallReplyHead front sealed readAs selectiveRead allCallRead codeFor drawn over started messagesWith messagesAfter timerAfter timersAfter lapse startedByLOS startedByLSS commandOfSD commanded lockout lockedTo reserve closeout sending respond drawsBelow answers answerAllCall newborn makeRanged making queuing steps interrogated laidOver heardSelective heardAllCall taking unmade whenMade madeSaid modelSaid queuedSaid queueSaid sentText tookSaid sendSaid holderText timerText lockText locksText stateText stateSaid
+unfolding checked consoleText linesText linesOf newline lineSaid wordsSaid commandSaid countedSaid callSaid comment commandOf commandIn table wordsFor word wordsOf parts full grown blank sameAs ofNumber ofBytes numberIn allDigits valueAfter bytesIn isHex allHex hexValue pairs isDigit between answerText doneText refusalText decimal decimalIn hexIn hexOf hexDigit bits shiftIn divide remainderOf lowBits times overlayOf selectiveRanged replyRanged allCallReplyRanged aReply anAllCallReply replying allCallReplying headOf midOf replyHead allCallReplyHead front sealed codeFor drawn over started messagesWith messagesAfter timerAfter timersAfter lapse startedByLOS startedByLSS commandOfSD commanded lockout lockedTo reserve closeout sending respond drawsBelow answers answerAllCall newborn makeRanged making queuing steps interrogated laidOver taking unmade whenMade madeSaid modelSaid queuedSaid queueSaid sentText tookSaid sendSaid holderText timerText lockText locksText stateText stateSaid upOf selectiveComes allCallComes comes
 runs-printed = (refl, refl, refl, refl, refl)

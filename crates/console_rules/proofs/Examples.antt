@@ -4,6 +4,7 @@ use mathlib.Core.Path.{_≡_, refl}
 use mathlib.Core.List.{[], _∷_}
 use mathlib.Core.Option.{some, none}
 use Rattle.lists.specs.Lists.{filter}
+use Rattle.lists.specs.Checks.{checked}
 use Rattle.text_rules.specs.Plain.{plain}
 use Rattle.text_rules.specs.Put.{decimalIn, decimal}
 use Rattle.text_rules.specs.Signed.{signedDecimal}
@@ -12,8 +13,8 @@ use Rattle.text_rules.specs.Number.{between, isDigit, allDigits, valueAfter, nu
 use Rattle.text_rules.specs.Hex.{hexDigit, hexIn, hexOf, hexValue, allHex, pairs, isHex, bytesIn}
 use Rattle.text_rules.specs.declared.answer.Number.the-variants.{Is, Not}
 use Rattle.parity_rules.specs.Messages.{bits}
-use Rattle.parity_rules.specs.Division.{shiftIn, divide, remainderOf, syndrome}
-use Rattle.parity_rules.specs.Overlays.{lowBits, times, overlayOf}
+use Rattle.parity_rules.specs.Division.{shiftIn, divide, remainderOf, remainderAnswer, syndrome}
+use Rattle.parity_rules.specs.Overlays.{lowBits, times, overlayOf, uplinkOverlay}
 use Rattle.parity_rules.specs.Correction.{sizeOf, subsets, xorOf, matching, flipped, correction}
 use Rattle.frames_rules.specs.Fields.{headOf, midOf, selectiveHead, allCallHead}
 use Rattle.frames_rules.specs.Frames.{front, sealed}
@@ -59,7 +60,7 @@ parity-lines :
     × Prints "correct 8000000200000000000000000002 8000000200000000000000000000 0 5" "12\n"
     × Prints "correct 8000000200000000000000000002 8000000200000000000000000002 0 2" "11\n"
     × Prints "correct 0000000000000000000000000000 0000000000000000000000000002 2 5" "0 0000000000000000000000000002 1\n"
-unfolding filter lineSaid wordsSaid commandSaid countedSaid callSaid comment commandOf commandIn table wordsFor word wordsOf parts full grown blank sameAs ofNumber ofBytes numberIn allDigits valueAfter bytesIn isHex allHex hexValue pairs isDigit between answerText doneText refusalText decimal decimalIn hexIn hexOf hexDigit bits shiftIn divide remainderOf lowBits times overlayOf syndrome sizeOf subsets xorOf matching flipped correction reckonedText correctedText remainderText overlayText fixedText correctText
+unfolding filter checked remainderAnswer uplinkOverlay lineSaid wordsSaid commandSaid countedSaid callSaid comment commandOf commandIn table wordsFor word wordsOf parts full grown blank sameAs ofNumber ofBytes numberIn allDigits valueAfter bytesIn isHex allHex hexValue pairs isDigit between answerText doneText refusalText decimal decimalIn hexIn hexOf hexDigit bits shiftIn divide remainderOf lowBits times overlayOf syndrome sizeOf subsets xorOf matching flipped correction reckonedText correctedText remainderText overlayText fixedText correctText
 parity-lines = (refl, refl, refl, refl, refl, refl, refl, refl, refl, refl, refl)
 
 -- ---- interrogations built: the fields by their bit numbers, the address over the uplink; 2 for another UF, 1 for an MA not of seven bytes
@@ -70,7 +71,7 @@ building-lines :
     × Prints "build 4 0 0 0 0 000000000000 1" "1\n"
     × Prints "allcall 1 9 2" "0 58CA00005FB57F\n"
     × Prints "allcall 16 0 0" "2\n"
-unfolding lineSaid wordsSaid commandSaid countedSaid callSaid comment commandOf commandIn table wordsFor word wordsOf parts full grown blank sameAs ofNumber ofBytes numberIn allDigits valueAfter bytesIn isHex allHex hexValue pairs isDigit between answerText doneText refusalText decimal decimalIn hexIn hexOf hexDigit bits shiftIn divide remainderOf lowBits times overlayOf selectiveRanged allCallRanged selective allCall building allCalling headOf midOf selectiveHead allCallHead front sealed builtText selectiveText buildText allCallText
+unfolding checked lineSaid wordsSaid commandSaid countedSaid callSaid comment commandOf commandIn table wordsFor word wordsOf parts full grown blank sameAs ofNumber ofBytes numberIn allDigits valueAfter bytesIn isHex allHex hexValue pairs isDigit between answerText doneText refusalText decimal decimalIn hexIn hexOf hexDigit bits shiftIn divide remainderOf lowBits times overlayOf selectiveRanged allCallRanged selective allCall building allCalling headOf midOf selectiveHead allCallHead front sealed builtText selectiveText buildText allCallText
 building-lines = (refl, refl, refl, refl, refl, refl)
 
 -- ---- frames read: those interrogations again, published replies, and whose code a DF 11 carries for an SI station that permits its matching II or not
@@ -87,7 +88,7 @@ frame-lines :
     × Prints "code 5D484FDEA248E5 1 6 1" "0 matching\n"
     × Prints "code 5D484FDEA248E5 1 6 0" "0 other\n"
     × Prints "code 5D484FDEA248F5 1 6 2" "2\n"
-unfolding lineSaid wordsSaid commandSaid countedSaid callSaid comment commandOf commandIn table wordsFor word wordsOf parts full grown blank sameAs ofNumber ofBytes numberIn allDigits valueAfter bytesIn isHex allHex hexValue pairs isDigit between answerText doneText refusalText decimal decimalIn hexIn hexOf hexDigit bits shiftIn divide remainderOf headOf midOf readAs selectiveRead allCallRead surveillanceRead allCallReplyRead whose codeOf numberText fieldsText endText numbersText valuesText readText replyText interrogationText upText downText codeWord whoseText codeText
+unfolding checked lineSaid wordsSaid commandSaid countedSaid callSaid comment commandOf commandIn table wordsFor word wordsOf parts full grown blank sameAs ofNumber ofBytes numberIn allDigits valueAfter bytesIn isHex allHex hexValue pairs isDigit between answerText doneText refusalText decimal decimalIn hexIn hexOf hexDigit bits shiftIn divide remainderOf headOf midOf readAs selectiveRead allCallRead surveillanceRead allCallReplyRead whose codeOf numberText fieldsText endText numbersText valuesText readText replyText interrogationText upText downText codeWord whoseText codeText
 frame-lines = (refl, refl, refl, refl, refl, refl, refl, refl, refl, refl, refl, refl)
 
 -- ---- altitudes: published codes, none, metric, an illegal pattern, and a code of 14 bits

@@ -9,10 +9,10 @@ use Rattle.text_rules.proofs.Lines.{lines-next, lines-end}
 use Rattle.text_rules.proofs.Run as run
 use Rattle.console_rules.specs.declared.state.Aircraft.{Aircraft}
 use Rattle.console_rules.specs.Aircraft.{unmade}
-use Rattle.console_rules.specs.declared.console.Answer.{Answer}
+use Rattle.console_rules.specs.declared.console.Served.{Served}
 use Rattle.console_rules.specs.Console.{Answered, lineText, linesText, consoleText}
 
-module _ {a : Aircraft} {s : List ℕ} {at : ℕ} {before after : List ℕ} {r : Answer} (t : Answered a s at before after r) where
+module _ {a : Aircraft} {s : List ℕ} {at : ℕ} {before after : List ℕ} {r : Served} (t : Answered a s at before after r) where
   -- with 512 bytes lent, what the call leaves at the buffer's front is the whole text of the line
   pub line-stands : 512 ≤ length before → take (r .size) after ≡ lineText a (lineAt s at)
   line-stands h = run.line-stands (lineText a) (t .line-taken) (omega (arith, t .short))
@@ -32,7 +32,7 @@ module _ {a : Aircraft} {s : List ℕ} {at : ℕ} {before after : List ℕ} {r :
 -- answered into 512 bytes, what stands there is printed, and the run goes on at the next place with the aircraft that the line left
 pub data Ran (s : List ℕ) : Aircraft → ℕ → List ℕ → Type 0 where
   ended : {a : Aircraft} (at : ℕ) → length s ≤ at → Ran s a at []
-  went-on : (a : Aircraft) (at : ℕ) {before after : List ℕ} (r : Answer) {rest : List ℕ} → at < length s → 512 ≤ length before → Answered a s at before after r
+  went-on : (a : Aircraft) (at : ℕ) {before after : List ℕ} (r : Served) {rest : List ℕ} → at < length s → 512 ≤ length before → Answered a s at before after r
       → Ran s (r .aircraft) (r .next) rest → Ran s a at (take (r .size) after ++ rest)
 
 module _ {s : List ℕ} where

@@ -2,12 +2,15 @@
 use Prim.Native.Nat.{ℕ, _≤_, _<_}
 use native.Mathlib.Omega.{arith}
 use mathlib.Core.Path.{_≡_, refl}
-use mathlib.Core.Bool.{Bool, true, false, _&&_}
+use mathlib.Core.Bool.{Bool, true, false}
 use mathlib.Core.List.{List, [], _∷_, _++_}
 use mathlib.Core.Option.{Option, some, none}
-use lib.Dec.{eqb, ltb}
+use lib.Dec.{eqb}
 use lib.ListN.{length, take, drop, replicate, length-append, length-take, length-replicate}
-use Rattle.lists.specs.Lists.{pick}
+use Rattle.lists.specs.Lists.{pick, All}
+use Rattle.lists.specs.Checks.{check, checked}
+use Rattle.lists.specs.Answers.{Answer, done, refusal, refusedBy}
+use Rattle.lists.proofs.Checks.{whichever}
 use Rattle.text_rules.specs.Line.{sameAs}
 use Rattle.text_rules.specs.Hex.{bytesIn}
 use Rattle.text_rules.specs.declared.answer.Number.{Number}
@@ -18,19 +21,18 @@ use Rattle.text_rules.proofs.HexRead.{bytes-fit}
 use Rattle.altitude_rules.specs.Code.{altitude}
 use Rattle.console_rules.specs.FeetLines as feet-lines
 use Rattle.console_rules.proofs.FeetRun.{answer-short}
-use Rattle.parity_rules.specs.Messages.{bits, whole}
-use Rattle.parity_rules.specs.Answers.{Answer, Outcome, done, refusal}
-use Rattle.parity_rules.specs.Division.{remainderOf}
-use Rattle.parity_rules.specs.Overlays.{overlayOf}
+use Rattle.parity_rules.specs.Answers.{Correction}
+use Rattle.parity_rules.specs.Division.{remainderChecks, remainderAnswer}
+use Rattle.parity_rules.specs.Overlays.{uplinkOverlayChecks, uplinkOverlay}
 use Rattle.parity_rules.specs.Correction.{correction}
 use Rattle.parity_rules.proofs.Sizes.{Small, outcome-small}
-use Rattle.frames_rules.specs.Answers as frames
-use Rattle.frames_rules.specs.Bytes.{bytesOf, numberOfBytes}
-use Rattle.frames_rules.specs.Formats.{longFormat, surveillance, lengthOf, listed}
+use Rattle.frames_rules.specs.Answers.{Building, notBuilt, own, matchingII}
+use Rattle.frames_rules.specs.Bytes.{bytesOf}
+use Rattle.frames_rules.specs.Formats.{longFormat, lengthOf}
 use Rattle.frames_rules.specs.Frames.{front, sealed, framed}
-use Rattle.frames_rules.specs.Building.{selectiveRanged, allCallRanged, selective, allCall, building, allCalling}
-use Rattle.frames_rules.specs.Codes.{stationRanged, whose, codeOf}
-use Rattle.frames_rules.specs.Reading.{formatOf, readAs, allCallRead, selectiveRead, allCallReplyRead, surveillanceRead, mbPart}
+use Rattle.frames_rules.specs.Building.{selective, allCall, buildingChecks, building, allCallingChecks, allCalling}
+use Rattle.frames_rules.specs.Codes.{codeOfChecks, codeOf}
+use Rattle.frames_rules.specs.Reading.{formatOf, readChecks, readAs, allCallRead, selectiveRead, allCallReplyRead, surveillanceRead, mbPart}
 use Rattle.console_rules.specs.Texts.{unread, word, numberWord, ofNumber, ofBytes, withNumber, withBytes, doneText, refusalText, answerText}
 use Rattle.console_rules.specs.Parity.{reckonedText, correctedText, remainderText, overlayText, fixedText, correctText}
 use Rattle.console_rules.specs.Building.{builtText, selectiveText, buildText, allCallText}
@@ -74,12 +76,15 @@ reckoned-fits : (a : Answer) → a .number ≤ 17 → length (reckonedText a) �
 unfolding reckonedText
 reckoned-fits a h = answer-fits _ _ h (simp hex-length (omega arith))
 
--- a reckoning answers 0 or its one refusal
-reckoned-number : (t : Bool) (v n : ℕ) → n ≤ 17 → pick t (done v) (refusal n) .number ≤ 17
-reckoned-number true v n h = omega arith
-reckoned-number false v n h = h
+remainder-number : (msg : List ℕ) → remainderAnswer msg .number ≤ 17
+unfolding All remainderAnswer
+remainder-number msg = whichever (λ (a : Answer). a .number ≤ 17) (remainderChecks msg) refusedBy _ (omega arith, tt) (λ p. omega arith)
 
-corrected-fits : (o : Outcome) (size : ℕ) → size ≤ 32 → Small size o → length (correctedText o) ≤ room
+overlay-number : (address : ℕ) → uplinkOverlay address .number ≤ 17
+unfolding All uplinkOverlay
+overlay-number address = whichever (λ (a : Answer). a .number ≤ 17) (uplinkOverlayChecks address) refusedBy _ (omega arith, tt) (λ p. omega arith)
+
+corrected-fits : (o : Correction) (size : ℕ) → size ≤ 32 → Small size o → length (correctedText o) ≤ room
 unfolding correctedText
 corrected-fits o size k s =
     answer-fits _ _ (omega (arith, s .number))
@@ -110,47 +115,51 @@ end-fits f part r h =
     either-fits (longFormat f) _ _ (simp length-append (omega (arith, hex-of-length part, hex-length 6 r))) (omega (arith, hex-length 6 r))
 
 seven-fits : (f a b c d m r : ℕ) (part : List ℕ) → f < 100000000 → a < 100000000 → b < 100000000 → c < 100000000 → d < 100000000 → length part ≤ 7
-    → length (readText (frames.done (f ∷ a ∷ b ∷ c ∷ d ∷ m ∷ r ∷ [])) part) ≤ room
+    → length (readText (done (f ∷ a ∷ b ∷ c ∷ d ∷ m ∷ r ∷ [])) part) ≤ room
 unfolding readText valuesText numbersText
 seven-fits f a b c d m r part hf ha hb hc hd hp =
     answer-fits 0 _ (omega arith)
     (simp length-append (omega (arith, number-fits f hf, number-fits a ha, number-fits b hb, number-fits c hc, number-fits d hd, end-fits f part r hp)))
 
-four-fits : (f a b r : ℕ) (part : List ℕ) → f < 100000000 → a < 100000000 → b < 100000000 → length (readText (frames.done (f ∷ a ∷ b ∷ r ∷ [])) part) ≤ room
+four-fits : (f a b r : ℕ) (part : List ℕ) → f < 100000000 → a < 100000000 → b < 100000000 → length (readText (done (f ∷ a ∷ b ∷ r ∷ [])) part) ≤ room
 unfolding readText valuesText fieldsText
 four-fits f a b r part hf ha hb =
     answer-fits 0 _ (omega arith)
     (simp length-append (omega (arith, number-fits f hf, number-fits a ha, number-fits b hb, hex-length 6 r)))
 
-five-fits : (f a b c r : ℕ) (part : List ℕ) → f < 100000000 → a < 100000000 → b < 100000000 → c < 100000000 → length (readText (frames.done (f ∷ a ∷ b ∷ c ∷ r ∷ [])) part) ≤ room
+five-fits : (f a b c r : ℕ) (part : List ℕ) → f < 100000000 → a < 100000000 → b < 100000000 → c < 100000000 → length (readText (done (f ∷ a ∷ b ∷ c ∷ r ∷ [])) part) ≤ room
 unfolding readText valuesText fieldsText
 five-fits f a b c r part hf ha hb hc =
     answer-fits 0 _ (omega arith)
     (simp length-append (omega (arith, number-fits f hf, number-fits a ha, number-fits b hb, number-fits c hc, hex-length 6 r)))
 
-refused-fits : (n : ℕ) (part : List ℕ) → n ≤ 17 → length (readText (frames.refusal n) part) ≤ room
+refused-fits : (n : ℕ) (part : List ℕ) → n ≤ 17 → length (readText (refusal n) part) ≤ room
 unfolding readText valuesText fieldsText
 refused-fits n part h = answer-fits n [] h (omega arith)
 
--- what a reading answers, one of four
-read-fits : (t u v : Bool) (x y : frames.Answer) (part : List ℕ) → length (readText x part) ≤ room → length (readText y part) ≤ room
-    → length (readText (pick t (pick u (pick v x y) (frames.refusal 14)) (frames.refusal 1)) part) ≤ room
-read-fits true true true x y part h k = h
-read-fits true true false x y part h k = k
-read-fits true false v x y part h k = refused-fits 14 part (omega arith)
-read-fits false u v x y part h k = refused-fits 1 part (omega arith)
+-- what a reading answers, refused or one of two
+either-read : (v : Bool) (x y : Answer) (part : List ℕ) → length (readText x part) ≤ room → length (readText y part) ≤ room → length (readText (pick v x y) part) ≤ room
+either-read true x y part h k = h
+either-read false x y part h k = k
+
+read-fits : (m : List ℕ) (x y : Answer) (part : List ℕ) → length (readText x part) ≤ room → length (readText y part) ≤ room
+    → length (readText (checked (readChecks m) refusedBy (pick (eqb (formatOf m) 11) x y)) part) ≤ room
+unfolding All readChecks
+read-fits m x y part h k =
+    whichever (λ (a : Answer). length (readText a part) ≤ room) (readChecks m) refusedBy (pick (eqb (formatOf m) 11) x y)
+    (refused-fits 1 part (omega arith), (refused-fits 14 part (omega arith), tt)) (λ p. either-read (eqb (formatOf m) 11) x y part h k)
 
 interrogation-fits : (msg : List ℕ) → length (interrogationText msg) ≤ room
 unfolding interrogationText readAs allCallRead selectiveRead
 interrogation-fits msg =
-    read-fits (whole (length msg)) (listed (formatOf msg) (length msg)) (eqb (formatOf msg) 11) _ _ _
+    read-fits msg _ _ _
     (five-fits 11 _ _ _ _ _ (omega arith) (omega arith) (omega arith) (omega arith))
     (seven-fits _ _ _ _ _ _ _ _ (omega arith) (omega arith) (omega arith) (omega arith) (omega arith) (omega (arith, part-fits msg)))
 
 reply-fits : (msg : List ℕ) → length (replyText msg) ≤ room
 unfolding replyText readAs allCallReplyRead surveillanceRead
 reply-fits msg =
-    read-fits (whole (length msg)) (listed (formatOf msg) (length msg)) (eqb (formatOf msg) 11) _ _ _
+    read-fits msg _ _ _
     (four-fits 11 _ _ _ _ (omega arith) (omega arith) (omega arith))
     (seven-fits _ _ _ _ _ _ _ _ (omega arith) (omega arith) (omega arith) (omega arith) (omega arith) (omega (arith, part-fits msg)))
 
@@ -159,18 +168,16 @@ reply-fits msg =
 code-word-fits : (vs : List ℕ) → length (codeWord vs) ≤ 80
 unfolding codeWord
 code-word-fits vs =
-    either-fits (sameAs vs frames.own) _ _ (omega arith) (either-fits (sameAs vs frames.matchingII) _ _ (omega arith) (omega arith))
+    either-fits (sameAs vs own) _ _ (omega arith) (either-fits (sameAs vs matchingII) _ _ (omega arith) (omega arith))
 
-code-number : (t u v : Bool) (x : List ℕ) → pick t (pick u (pick v (frames.done x) (frames.refusal 14)) (frames.refusal 2)) (frames.refusal 1) .number ≤ 17
-code-number true true true x = omega arith
-code-number true true false x = omega arith
-code-number true false v x = omega arith
-code-number false u v x = omega arith
+code-number : (msg : List ℕ) (cl ic permit : ℕ) → codeOf msg cl ic permit .number ≤ 17
+unfolding All codeOf
+code-number msg cl ic permit =
+    whichever (λ (a : Answer). a .number ≤ 17) (codeOfChecks msg cl ic permit) refusedBy _ (omega arith, (omega arith, (omega arith, tt))) (λ p. omega arith)
 
 whose-fits : (msg : List ℕ) (cl ic permit : ℕ) → length (whoseText (codeOf msg cl ic permit)) ≤ room
-unfolding whoseText codeOf
-whose-fits msg cl ic permit =
-    answer-fits _ _ (code-number (whole (length msg)) (stationRanged cl ic permit) (eqb (length msg) 7 && eqb (formatOf msg) 11) (whose (remainderOf (bits msg)) cl ic permit)) (code-word-fits _)
+unfolding whoseText
+whose-fits msg cl ic permit = answer-fits _ _ (code-number msg cl ic permit) (code-word-fits _)
 
 -- ---- a frame that is built
 
@@ -186,24 +193,25 @@ lent-short : (t : Bool) → length (replicate {A = ℕ} (pick t 14 7) 0) ≤ 14
 lent-short true = omega arith
 lent-short false = omega arith
 
--- an outcome of building: the frame, or a refusal that leaves the lent buffer
-built-fits : (t u v : Bool) (x l : List ℕ) → length x ≤ 14 → length l ≤ 14
-    → length (builtText (pick t (pick u (pick v (frames.holding x) (frames.refused 2 l)) (frames.refused 1 l)) (frames.refused 2 l))) ≤ room
+-- the frame, or a refusal that leaves the lent buffer
+held-fits : (n : ℕ) (l : List ℕ) → n ≤ 17 → length l ≤ 14 → length (builtText (notBuilt l (check n true))) ≤ room
 unfolding builtText
-built-fits true true true x l h k = answer-fits _ _ (omega arith) (omega (arith, hex-of-length x))
-built-fits true true false x l h k = answer-fits _ _ (omega arith) (omega (arith, hex-of-length l))
-built-fits true false v x l h k = answer-fits _ _ (omega arith) (omega (arith, hex-of-length l))
-built-fits false u v x l h k = answer-fits _ _ (omega arith) (omega (arith, hex-of-length l))
+held-fits n l h k = answer-fits _ _ h (omega (arith, hex-of-length l))
 
 selective-fits : (uf pc rr di sd : ℕ) (ma : List ℕ) (address : ℕ) → length (selectiveText uf pc rr di sd ma address) ≤ room
-unfolding selectiveText building selective
+unfolding All selectiveText building selective
 selective-fits uf pc rr di sd ma address =
-    built-fits (surveillance uf) (eqb (length (replicate {A = ℕ} (lengthOf uf) 0)) (lengthOf uf) && eqb (length ma) 7) (selectiveRanged uf pc rr di sd (numberOfBytes ma) address)
-    (selective uf pc rr di sd (numberOfBytes ma) address) (replicate (lengthOf uf) 0) (frame-short (lengthOf uf) _ _ _) (lent-short (longFormat uf))
+    let l = replicate {A = ℕ} (lengthOf uf) 0 in
+    let by : (n : ℕ) → n ≤ 17 → length (builtText (notBuilt l (check n true))) ≤ room = λ n h. held-fits n l h (lent-short (longFormat uf)) in
+    whichever (λ (o : Building). length (builtText o) ≤ room) (buildingChecks uf pc rr di sd ma address l) (notBuilt l) _
+    (by 2 (omega arith), (by 1 (omega arith), (by 2 (omega arith), tt))) (λ p. held-fits 0 _ (omega arith) (frame-short (lengthOf uf) _ _ _))
 
 all-call-fits : (pr ic cl : ℕ) → length (builtText (allCalling pr ic cl (replicate 7 0))) ≤ room
-unfolding allCalling allCall
-all-call-fits pr ic cl = built-fits true true (allCallRanged pr ic cl) (allCall pr ic cl) (replicate 7 0) (frame-short 7 _ _ _) (omega arith)
+unfolding All allCalling allCall
+all-call-fits pr ic cl =
+    let l = replicate {A = ℕ} 7 0 in
+    whichever (λ (o : Building). length (builtText o) ≤ room) (allCallingChecks pr ic cl l) (notBuilt l) _
+    (held-fits 1 l (omega arith) (omega arith), (held-fits 2 l (omega arith) (omega arith), tt)) (λ p. held-fits 0 _ (omega arith) (frame-short 7 _ _ _))
 
 -- ---- an altitude
 
@@ -216,12 +224,12 @@ module _ (ws : List (List ℕ)) where
   pub remainder-fits : length (remainderText ws) ≤ room
   unfolding remainderText
   remainder-fits =
-      with-bytes-fits (word 1 ws) _ (λ msg h. reckoned-fits _ (omega (arith, reckoned-number (whole (length msg)) (remainderOf (bits msg)) 1 (omega arith))))
+      with-bytes-fits (word 1 ws) _ (λ msg h. reckoned-fits _ (remainder-number msg))
 
   pub overlay-fits : length (overlayText ws) ≤ room
   unfolding overlayText
   overlay-fits =
-      with-number-fits (numberWord 1 ws) _ (λ address. reckoned-fits _ (omega (arith, reckoned-number (ltb address 0x1000000) (overlayOf address) 2 (omega arith))))
+      with-number-fits (numberWord 1 ws) _ (λ address. reckoned-fits _ (overlay-number address))
 
   pub correct-fits : length (correctText ws) ≤ room
   unfolding correctText

@@ -10,11 +10,10 @@ use Rattle.text_rules.proofs.HexMade.{hex-of-length}
 use Rattle.console_rules.specs.Texts.{doneText, refusalText}
 use Rattle.model_rules.specs.declared.state.Lock.{Lock}
 use Rattle.model_rules.specs.declared.state.Timer.{Timer}
-use Rattle.model_rules.specs.declared.state.Transponder.{Transponder}
+use Rattle.model_rules.specs.declared.state.Holder.{Holder}
 use Rattle.model_rules.specs.Lockout.{locks}
-use Rattle.model_rules.specs.State.{waiting}
 use Rattle.console_rules.proofs.Short.{either-fits}
-use Rattle.console_rules.specs.Aircraft.{sentText, holderText, timerText, lockText, locksText, stateText}
+use Rattle.console_rules.specs.Aircraft.{sentText, holderText, timerText, lockText, locksText, shownText}
 
 pub refusal-fits : (n : ℕ) → n < 256 → length (refusalText n) ≤ 512
 unfolding refusalText
@@ -44,10 +43,8 @@ locks-fit k [] h = omega arith
 locks-fit k (t ∷ ts) h = simp length-append (omega (arith, lock-fits k (t .lock) (omega arith), locks-fit (suc k) ts (omega arith)))
 
 -- the longest line: 79 locked codes
-pub state-fits : (t : Transponder) → t .time < 4294967296 → length (holderText (t .holder)) ≤ 3 → length (waiting (t .messages)) ≤ 8 → length (t .timers .list) ≡ 79
-    → length (stateText t) ≤ 512
-unfolding stateText doneText
-state-fits t h a b e =
-    simp length-append
-    (omega
-    (arith, decimal-fits (t .time) h, a, decimal-length 0 (length (waiting (t .messages))) (omega arith), locks-fit 0 (t .timers .list) (omega arith)))
+pub shown-fits : (time : ℕ) (h : Holder) (n : ℕ) (ts : List Timer) → time < 4294967296 → length (holderText h) ≤ 3 → n < 4294967296 → length ts ≡ 79
+    → length (shownText time h n ts) ≤ 512
+unfolding doneText
+shown-fits time h n ts k a b e =
+    simp length-append (omega (arith, decimal-fits time k, a, decimal-fits n b, locks-fit 0 ts (omega arith)))

@@ -48,6 +48,11 @@ pub record Showed (s : Said) (before after : List ℕ) (r : Shown) : Type 0 wher
   pub aircraft : r .aircraft ≡ s .aircraft
   pub short : length (s .text) ≤ 512
 
+-- such a text alone
+pub record Brief (t before after : List ℕ) (r : ℕ) : Type 0 where
+  pub text-put : Put t 0 before after r
+  pub short : length t ≤ 512
+
 -- the one with this text and this aircraft
 abbrev pub saying : List ℕ → Aircraft → Said
 saying t a = record { text = t; aircraft = a }
@@ -75,15 +80,19 @@ whenMade a said = pick (a .made) said (unreadSaid a)
 unfoldable pub madeSaid : Aircraft → Made → Said
 madeSaid a m = numberSaid (m .number) (pick (eqb (m .number) 0) (flying (m .transponder)) a)
 
--- the five numbers of the line
+-- FS and CA, the last of the five numbers of the line
+abbrev pub modelMore : Aircraft → ℕ → ℕ → ℕ → List (List ℕ) → Said
+modelMore a address ac id ws =
+    saidWithNumber a (numberWord 4 ws) (λ fs.
+    saidWithNumber a (numberWord 5 ws) (λ ca.
+    madeSaid a (making address ac id fs ca)))
+
 unfoldable pub modelSaid : Aircraft → List (List ℕ) → Said
 modelSaid a ws =
     saidWithNumber a (numberWord 1 ws) (λ address.
     saidWithNumber a (numberWord 2 ws) (λ ac.
     saidWithNumber a (numberWord 3 ws) (λ id.
-    saidWithNumber a (numberWord 4 ws) (λ fs.
-    saidWithNumber a (numberWord 5 ws) (λ ca.
-    madeSaid a (making address ac id fs ca))))))
+    modelMore a address ac id ws)))
 
 -- ---- `queue`
 -- the number of the queuing, and the aircraft with what it has left
@@ -104,14 +113,17 @@ sentText (b ∷ bs) = hexOf (b ∷ bs)
 unfoldable pub tookSaid : Took → Said
 tookSaid k = saying (answerText (k .number) (sentText (take (k .length) (k .reply)))) (flying (k .transponder))
 
+-- the frame of the line, sent at a time with a draw
+abbrev pub frameSaid : Aircraft → ℕ → ℕ → List (List ℕ) → Said
+frameSaid a time draw ws = saidWithBytes a (bytesAt 3 ws) (λ frame. tookSaid (taking (a .transponder) time draw frame))
+
 -- the time, the draw and the frame of the line
 unfoldable pub sendSaid : Aircraft → List (List ℕ) → Said
 sendSaid a ws =
     whenMade a
     (saidWithNumber a (numberWord 1 ws) (λ time.
     saidWithNumber a (numberWord 2 ws) (λ draw.
-    saidWithBytes a (bytesAt 3 ws) (λ frame.
-    tookSaid (taking (a .transponder) time draw frame)))))
+    frameSaid a time draw ws)))
 
 -- ---- `state`
 -- the holder's II, or `-` for nobody
@@ -132,10 +144,16 @@ unfoldable pub locksText : ℕ → List Timer → List ℕ
 locksText k [] = []
 locksText k (t ∷ ts) = lockText k (t .lock) ++ locksText (suc k) ts
 
--- the time, the holder, how many messages wait, and the locked codes
+-- the holder, how many messages wait, and the locked codes, each behind a space
+abbrev pub heldText : Holder → ℕ → List Timer → List ℕ
+heldText h n ts = plain " " ++ (holderText h ++ (plain " " ++ (decimal n ++ locksText 0 ts)))
+
+-- the time, then these
+abbrev pub shownText : ℕ → Holder → ℕ → List Timer → List ℕ
+shownText time h n ts = doneText (decimal time ++ heldText h n ts)
+
 unfoldable pub stateText : Transponder → List ℕ
-stateText t =
-    doneText (decimal (t .time) ++ (plain " " ++ (holderText (t .holder) ++ (plain " " ++ (decimal (length (waiting (t .messages))) ++ locksText 0 (t .timers .list))))))
+stateText t = shownText (t .time) (t .holder) (length (waiting (t .messages))) (t .timers .list)
 
 -- nothing changes
 unfoldable pub stateSaid : Aircraft → Said

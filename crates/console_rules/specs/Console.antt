@@ -15,7 +15,7 @@ use Rattle.console_rules.specs.Frames.{upText, downText, codeText}
 use Rattle.console_rules.specs.Feet.{feetText}
 use Rattle.console_rules.specs.declared.state.Aircraft.{Aircraft}
 use Rattle.console_rules.specs.Aircraft.{Said, saying, unmade, modelSaid, queueSaid, sendSaid, stateSaid}
-use Rattle.console_rules.specs.declared.console.Answer.{Answer}
+use Rattle.console_rules.specs.declared.console.Served.{Served}
 use Rattle.console_rules.specs.declared.names.Command.{Command}
 use Rattle.console_rules.specs.declared.names.Command.the-variants.{Remainder, Overlay, Correct, Build, AllCall, Up, Down, Code, Feet, Model, Queue, Send, State, Help, Unknown}
 use Rattle.console_rules.specs.Names.{commandOf, wordsFor}
@@ -78,7 +78,7 @@ unfoldable pub consoleText : List ℕ → List ℕ
 consoleText s = linesText unmade (linesOf s)
 
 -- the line at a place was taken, and the answer has the aircraft that it leaves; its text is at most the 512 bytes that the program lends
-pub record Answered (a : Aircraft) (s : List ℕ) (at : ℕ) (before after : List ℕ) (r : Answer) : Type 0 where
+pub record Answered (a : Aircraft) (s : List ℕ) (at : ℕ) (before after : List ℕ) (r : Served) : Type 0 where
   pub line-taken : TookLine (lineText a) s at before after (record { next = r .next; size = r .size })
   pub aircraft : r .aircraft ≡ lineLeaves a (lineAt s at)
   pub short : length (lineText a (lineAt s at)) ≤ 512

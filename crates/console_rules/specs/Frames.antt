@@ -8,7 +8,8 @@ use Rattle.text_rules.specs.Put.{decimal}
 use Rattle.text_rules.specs.Plain.{plain}
 use Rattle.text_rules.specs.Hex.{hexIn, hexOf}
 use Rattle.text_rules.specs.Line.{sameAs}
-use Rattle.frames_rules.specs.Answers.{Answer, own, matchingII}
+use Rattle.lists.specs.Answers.{Answer}
+use Rattle.frames_rules.specs.Answers.{own, matchingII}
 use Rattle.frames_rules.specs.Formats.{longFormat}
 use Rattle.frames_rules.specs.Reading.{readUp, readDown, mbPart}
 use Rattle.frames_rules.specs.Codes.{codeOf}

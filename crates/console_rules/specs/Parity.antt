@@ -1,11 +1,12 @@
 -- The lines `remainder HEX`, `overlay NUMBER` and `correct HEX MARKS OVERLAY LIMIT`.
 use Prim.Native.Nat.{ℕ}
 use mathlib.Core.List.{List, _++_}
-use lib.ListN.{length, replicate}
+use lib.ListN.{length, getD, replicate}
 use Rattle.text_rules.specs.Put.{decimal}
 use Rattle.text_rules.specs.Plain.{plain}
 use Rattle.text_rules.specs.Hex.{hexIn, hexOf}
-use Rattle.parity_rules.specs.Answers.{Answer, Outcome}
+use Rattle.lists.specs.Answers.{Answer}
+use Rattle.parity_rules.specs.Answers.{Correction}
 use Rattle.parity_rules.specs.Division.{remainderAnswer}
 use Rattle.parity_rules.specs.Overlays.{uplinkOverlay}
 use Rattle.parity_rules.specs.Correction.{correction}
@@ -13,10 +14,10 @@ use Rattle.console_rules.specs.Texts.{numberWord, bytesAt, withNumber, w
 
 -- a remainder or an overlay has six digits
 unfoldable pub reckonedText : Answer → List ℕ
-reckonedText a = answerText (a .number) (hexIn 6 (a .value))
+reckonedText a = answerText (a .number) (hexIn 6 (getD (a .values) 0 0))
 
 -- the corrected message and how many bits were flipped
-unfoldable pub correctedText : Outcome → List ℕ
+unfoldable pub correctedText : Correction → List ℕ
 correctedText o = answerText (o .number) (hexOf (o .output) ++ (plain " " ++ decimal (o .flips)))
 
 unfoldable pub remainderText : List (List ℕ) → List ℕ

@@ -3,7 +3,7 @@ mod console;
 mod names;
 mod state;
 
-pub use console::Answer;
+pub use console::Served;
 pub use names::Command;
 pub use state::Aircraft;
 pub use state::Shown;

@@ -2,15 +2,17 @@
 use Prim.Native.Nat.{ℕ, _+_, _*_, _/_, _%_}
 use mathlib.Core.List.{List}
 use mathlib.Core.Path.{_≡_}
+use lib.ListN.{getD}
+use Rattle.lists.specs.Answers.{Answer}
 use Rattle.parity_rules.specs.declared.answers.Fix.{Fix}
-use Rattle.parity_rules.specs.Answers.{Answer, Outcome, fixNumber, flipsOf}
+use Rattle.parity_rules.specs.Answers.{Correction, fixNumber, flipsOf}
 
--- an answer's number and value
+-- an answer's number and value, 0 where it has none
 abbrev pub packed : Answer → ℕ
-packed a = a .number * 4294967296 + a .value
+packed a = a .number * 4294967296 + getD (a .values) 0 0
 
--- the outcome that a number and the buffer after the call say
-abbrev pub opened : ℕ → List ℕ → Outcome
+-- the correction that a number and the buffer after the call say
+abbrev pub opened : ℕ → List ℕ → Correction
 opened r out = record { number = r / 4294967296; flips = r % 4294967296; output = out }
 
 -- p has a correction's number above and its flips below

@@ -1,6 +1,6 @@
 // The calls of parity for programs in other languages. An answer is one number: that of document 01 times 2^32 plus the value or the flips.
 ghost use mathlib.Core.Path.{_≡_};
-ghost use Rattle.parity_rules.specs.Answers.{answered};
+ghost use Rattle.parity_rules.specs.Answers.{reckonedSaid};
 ghost use Rattle.parity_rules.specs.Division.{remainderAnswer};
 ghost use Rattle.parity_rules.specs.Overlays.{uplinkOverlay, codeOverlay};
 ghost use Rattle.parity_rules.specs.Correction.{correction};
@@ -10,7 +10,7 @@ use parity::Reckoned;
 
 // A reckoned number as one number.
 fn pack(r: Reckoned) -> u64
-    ensures { λ p. ⌜ p ≡ packed (answered r) ⌝ }
+    ensures { λ p. ⌜ p ≡ packed (reckonedSaid r) ⌝ }
 {
     match r {
         Reckoned::Is(v) => v as u64,

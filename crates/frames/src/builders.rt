@@ -1,10 +1,10 @@
 // Interrogations built into a lent buffer.
 ghost use mathlib.Core.Path.{_≡_};
 ghost use Prim.Native.Nat.{_<_};
-ghost use Rattle.frames_rules.specs.Answers.{said};
+ghost use Rattle.frames_rules.specs.Answers.{builtSaid};
 ghost use Rattle.frames_rules.specs.Fields.{selectiveHead, allCallHead};
 ghost use Rattle.frames_rules.specs.Building.{isAddress, selectiveRanged, allCallRanged, building, allCalling};
-use crate::bytes::number_of;
+use crate::bytes::number_in;
 use crate::formats::length_of;
 use crate::formats::long_format;
 use crate::formats::surveillance;
@@ -13,7 +13,7 @@ use crate::frame::write;
 use frames_rules::Built;
 
 // Whether a number is an address: 1 to 16,777,214.
-pub fn an_address(a: u32) -> bool
+pub fn is_address(a: u32) -> bool
     ensures { λ r. ⌜ r ≡ isAddress a ⌝ }
 {
     if a == 0 {
@@ -41,7 +41,7 @@ pub fn selective_ranged(uf: u32, pc: u32, rr: u32, di: u32, sd: u32, ma: u64, ad
     if 65535 < sd {
         return false;
     }
-    if !an_address(address) {
+    if !is_address(address) {
         return false;
     }
     if ma == 0 {
@@ -72,7 +72,7 @@ pub fn build(
     address: u32,
     out: &mut [u8],
 ) -> Built
-    ensures { λ r. ⌜ said r (now (out .exit)) ≡ building uf pc rr di sd (now (ma .entry)) address (now (out .entry)) ⌝ }
+    ensures { λ r. ⌜ builtSaid r (now (out .exit)) ≡ building uf pc rr di sd (now (ma .entry)) address (now (out .entry)) ⌝ }
 {
     if !surveillance(uf) {
         return Built::Range;
@@ -83,7 +83,7 @@ pub fn build(
     if ma.len() != 7 {
         return Built::Length;
     }
-    let mid = number_of(ma);
+    let mid = number_in(ma);
     if !selective_ranged(uf, pc, rr, di, sd, mid, address) {
         return Built::Range;
     }
@@ -115,7 +115,7 @@ fn all_call_head(pr: u32, ic: u32, cl: u32) -> u32
 
 // Builds UF 11.
 pub fn all_call(pr: u32, ic: u32, cl: u32, out: &mut [u8]) -> Built
-    ensures { λ r. ⌜ said r (now (out .exit)) ≡ allCalling pr ic cl (now (out .entry)) ⌝ }
+    ensures { λ r. ⌜ builtSaid r (now (out .exit)) ≡ allCalling pr ic cl (now (out .entry)) ⌝ }
 {
     if out.len() != 7 {
         return Built::Length;

@@ -1,12 +1,12 @@
 // Numbers as bytes, the highest first.
 ghost use mathlib.Core.Path.{_≡_};
-ghost use lib.ListN.{length};
+ghost use lib.ListN.{length, take};
 ghost use lib.Seq.{sets};
 ghost use Prim.Native.Nat.{_+_, _*_, _^_, _<_, _≤_};
 ghost use Rattle.frames_rules.specs.Bytes.{bytesOf, numberOfBytes};
 
-// The number that some bytes are.
-pub(crate) fn number_of(s: &[u8]) -> u64
+// The number that at most seven bytes are.
+pub(crate) fn number_in(s: &[u8]) -> u64
     requires { ⌜ length (now s) ≤ 7 ⌝ }
     ensures { λ r. ⌜ (r ≡ numberOfBytes (now (s .entry))) × (r < 2 ^ (8 * length (now (s .entry)))) ⌝ }
 {
@@ -17,6 +17,16 @@ pub(crate) fn number_of(s: &[u8]) -> u64
         i += 1;
     }
     r
+}
+
+// The number that some bytes are; of more than seven, that of the first seven.
+pub fn number_of(s: &[u8]) -> u64
+    ensures { λ r. ⌜ r ≡ numberOfBytes (take 7 (now (s .entry))) ⌝ }
+{
+    if 7 < s.len() {
+        return number_in(&s[0..7]);
+    }
+    number_in(s)
 }
 
 // Writes the n low bytes of a number from a place on.

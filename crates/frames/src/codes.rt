@@ -1,15 +1,16 @@
 // The codes: which interrogator CL and IC stand for, and whose code a DF 11 carries.
 ghost use mathlib.Core.Path.{_≡_};
 ghost use Prim.Native.Nat.{_<_};
-ghost use Rattle.frames_rules.specs.Answers.{codeSaid, done, interrogatorSaid};
+ghost use Rattle.lists.specs.Answers.{done};
+ghost use Rattle.frames_rules.specs.Answers.{codeSaid, interrogatorSaid};
 ghost use Rattle.frames_rules.specs.Codes.{stationRanged, whose, codeOf};
 ghost use Rattle.frames_rules.specs.Shared.{ofSI, codeTold};
 use crate::frame::code_overlay;
 use crate::message::head_of;
 use crate::message::remainder_of;
-use crate::message::whole;
 use frames_rules::Code;
 use frames_rules::Interrogator;
+use parity::seven_or_fourteen;
 
 // Whether CL is one of those of SI, 1 to 4.
 fn of_si(cl: u32) -> bool
@@ -81,7 +82,7 @@ fn whose_code(remainder: u32, cl: u32, ic: u32, permit: u32) -> Code
 pub fn code_of(msg: &[u8], cl: u32, ic: u32, permit: u32) -> Code
     ensures { λ r. ⌜ codeSaid r ≡ codeOf (now (msg .entry)) cl ic permit ⌝ }
 {
-    if !whole(msg.len()) {
+    if !seven_or_fourteen(msg.len()) {
         return Code::Length;
     }
     if !station_ranged(cl, ic, permit) {

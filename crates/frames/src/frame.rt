@@ -4,7 +4,7 @@ ghost use mathlib.Core.Bool.{true};
 ghost use mathlib.Core.List.{_++_};
 ghost use lib.ListN.{length, take, drop};
 ghost use Prim.Native.Nat.{_-_, _<_};
-ghost use Rattle.parity_rules.specs.Messages.{whole};
+ghost use Rattle.parity_rules.specs.Messages.{sevenOrFourteen};
 ghost use Rattle.parity_rules.specs.Overlays.{overlayOf};
 ghost use Rattle.frames_rules.specs.Frames.{front, sealed, framed};
 ghost use Rattle.frames_rules.specs.Shared.{codeNumber};
@@ -14,7 +14,7 @@ use parity::Reckoned;
 
 // Writes all but the parity.
 fn fill(head: u32, mid: u64, out: &mut [u8])
-    requires { ⌜ whole (length (now out)) ≡ true ⌝ }
+    requires { ⌜ sevenOrFourteen (length (now out)) ≡ true ⌝ }
     ensures { λ r. ⌜ now (out .exit) ≡ front (length (now (out .entry))) head mid ++ drop (length (now (out .entry)) - 3) (now (out .entry)) ⌝ }
 {
     put(head as u64, 4, 0, out);
@@ -26,7 +26,7 @@ fn fill(head: u32, mid: u64, out: &mut [u8])
 
 // Writes the parity: what is written before it, then the remainder with the overlay over it.
 fn seal(overlay: u32, out: &mut [u8])
-    requires { ⌜ whole (length (now out)) ≡ true ⌝ }
+    requires { ⌜ sevenOrFourteen (length (now out)) ≡ true ⌝ }
     ensures { λ r. ⌜ now (out .exit) ≡ sealed (take (length (now (out .entry)) - 3) (now (out .entry))) overlay ⌝ }
 {
     let at = out.len() - 3;
@@ -37,7 +37,7 @@ fn seal(overlay: u32, out: &mut [u8])
 
 // Writes a frame of the buffer's length.
 pub(crate) fn write(head: u32, mid: u64, overlay: u32, out: &mut [u8])
-    requires { ⌜ whole (length (now out)) ≡ true ⌝ }
+    requires { ⌜ sevenOrFourteen (length (now out)) ≡ true ⌝ }
     ensures { λ r. ⌜ now (out .exit) ≡ framed (length (now (out .entry))) head mid overlay ⌝ }
 {
     fill(head, mid, out);

@@ -12,9 +12,10 @@ mod replies;
 
 pub use addresses::address_of;
 pub use builders::all_call;
-pub use builders::an_address;
 pub use builders::build;
+pub use builders::is_address;
 pub use builders::selective_ranged;
+pub use bytes::number_of;
 pub use codes::code_for;
 pub use codes::code_of;
 pub use formats::drawn;

@@ -6,9 +6,9 @@ use crate::formats::listed;
 use crate::message::head_of;
 use crate::message::mid_of;
 use crate::message::remainder_of;
-use crate::message::whole;
 use frames_rules::Down;
 use frames_rules::Up;
+use parity::seven_or_fourteen;
 
 // The fields of UF 4, 5, 20 or 21.
 fn selective(head: u32, ma: u64, remainder: u32) -> Up
@@ -41,7 +41,7 @@ fn all_call(head: u32, remainder: u32) -> Up
 pub fn read_up(msg: &[u8]) -> Up
     ensures { λ r. ⌜ upSaid r ≡ readUp (now (msg .entry)) ⌝ }
 {
-    if !whole(msg.len()) {
+    if !seven_or_fourteen(msg.len()) {
         return Up::Length;
     }
     let head = head_of(msg);
@@ -86,7 +86,7 @@ fn all_call_reply(head: u32, remainder: u32) -> Down
 pub fn read_down(msg: &[u8]) -> Down
     ensures { λ r. ⌜ downSaid r ≡ readDown (now (msg .entry)) ⌝ }
 {
-    if !whole(msg.len()) {
+    if !seven_or_fourteen(msg.len()) {
         return Down::Length;
     }
     let head = head_of(msg);

@@ -1,10 +1,10 @@
 // Replies built into a lent buffer, as a transponder sends them.
 ghost use mathlib.Core.Path.{_≡_};
 ghost use Prim.Native.Nat.{_<_};
-ghost use Rattle.frames_rules.specs.Answers.{said};
+ghost use Rattle.frames_rules.specs.Answers.{builtSaid};
 ghost use Rattle.frames_rules.specs.Fields.{replyHead, allCallReplyHead};
 ghost use Rattle.frames_rules.specs.Building.{replyRanged, allCallReplyRanged, replying, allCallReplying};
-use crate::builders::an_address;
+use crate::builders::is_address;
 use crate::formats::length_of;
 use crate::formats::long_format;
 use crate::formats::surveillance;
@@ -28,7 +28,7 @@ fn reply_ranged(df: u32, fs: u32, dr: u32, um: u32, value: u32, mb: u64, address
     if 8191 < value {
         return false;
     }
-    if !an_address(address) {
+    if !is_address(address) {
         return false;
     }
     if mb == 0 {
@@ -59,7 +59,7 @@ pub fn reply(
     address: u32,
     out: &mut [u8],
 ) -> Built
-    ensures { λ r. ⌜ said r (now (out .exit)) ≡ replying df fs dr um value mb address (now (out .entry)) ⌝ }
+    ensures { λ r. ⌜ builtSaid r (now (out .exit)) ≡ replying df fs dr um value mb address (now (out .entry)) ⌝ }
 {
     if !surveillance(df) {
         return Built::Range;
@@ -81,7 +81,7 @@ fn all_call_reply_ranged(ca: u32, address: u32, cl: u32, ic: u32) -> bool
     if 7 < ca {
         return false;
     }
-    if !an_address(address) {
+    if !is_address(address) {
         return false;
     }
     if 7 < cl {
@@ -100,7 +100,7 @@ fn all_call_reply_head(ca: u32, address: u32) -> u32
 
 // Builds DF 11 of an address, for the code of an interrogator.
 pub fn all_call_reply(ca: u32, address: u32, cl: u32, ic: u32, out: &mut [u8]) -> Built
-    ensures { λ r. ⌜ said r (now (out .exit)) ≡ allCallReplying ca address cl ic (now (out .entry)) ⌝ }
+    ensures { λ r. ⌜ builtSaid r (now (out .exit)) ≡ allCallReplying ca address cl ic (now (out .entry)) ⌝ }
 {
     if out.len() != 7 {
         return Built::Length;

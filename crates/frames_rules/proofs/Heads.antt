@@ -3,8 +3,9 @@ use mathlib.Core.Path.{_≡_}
 use mathlib.Core.List.{[], _∷_}
 use Prim.Native.Nat.{ℕ, _+_, _*_, _/_, _%_, _<_}
 use native.Mathlib.Omega.{arith}
-use Rattle.frames_rules.specs.Answers.{done}
-use Rattle.frames_rules.specs.Fields.{valueAt, atUF, atPC, atRR, atDI, atSD, atPR, atIC, atCL, atFS, atDR, atUM, atACorID, atCA, atAddress, selectiveHead, allCallHead, replyHead, allCallReplyHead}
+use Rattle.lists.specs.Answers.{done}
+use Rattle.frames_rules.specs.Fields.{valueAt, atUF, atPC, atRR, atDI, atSD, atPR, atIC, atCL, atFS, atDR, atUM, atACorID, atCA, atAddress}
+use Rattle.frames_rules.specs.Fields.{selectiveHead, allCallHead, replyHead, allCallReplyHead}
 use Rattle.frames_rules.specs.Reading.{selectiveRead, allCallRead, surveillanceRead, allCallReplyRead}
 
 -- ---- a head from its fields: `p` to `s` stand for its quotients, `a` to `e` for the values
@@ -43,7 +44,8 @@ module _ (uf pc rr di sd : ℕ) (hu : uf < 32) (hp : pc < 8) (hr : rr < 32) (hd 
 pub selective-again : (h : ℕ) → h < 4294967296 → selectiveHead (valueAt atUF h) (valueAt atPC h) (valueAt atRR h) (valueAt atDI h) (valueAt atSD h) ≡ h
 unfolding selectiveHead
 selective-again h l =
-    join-five h (h / 134217728) (h / 16777216) (h / 524288) (h / 65536) (h / 134217728 % 32) (h / 16777216 % 8) (h / 524288 % 32) (h / 65536 % 8) (h / 1 % 65536)
+    join-five h (h / 134217728) (h / 16777216) (h / 524288) (h / 65536) (h / 134217728 % 32) (h / 16777216 % 8) (h / 524288 % 32) (h / 65536 % 8)
+    (h / 1 % 65536)
     (omega arith) (omega arith) (omega arith) (omega arith) (omega arith)
 
 -- ---- UF 11

@@ -160,9 +160,11 @@ apart [] (y ∷ ys) hx hy e p q l = absurd (omega arith)
 apart (x ∷ xs) [] hx hy e p q l = absurd (omega arith)
 apart (x ∷ xs) (y ∷ ys) hx hy e p q l =
     let d : bitXor (bitXor (p * 2) (x * generator)) (bitXor (q * 2) (y * generator)) / 33554432 ≡ bitXor p q / 16777216 =
-    ap (λ (k : ℕ). k / 33554432) (xor-swap (p * 2) (x * generator) (q * 2) (y * generator) ∙ ap (λ (k : ℕ). bitXor k (bitXor (x * generator) (y * generator))) (double p q))
+    ap (λ (k : ℕ). k / 33554432)
+    (xor-swap (p * 2) (x * generator) (q * 2) (y * generator) ∙ ap (λ (k : ℕ). bitXor k (bitXor (x * generator) (y * generator))) (double p q))
     ∙ xor-shr (bitXor p q * 2) (bitXor (x * generator) (y * generator)) 25
-    ∙ ap₂ bitXor (halves (bitXor p q)) (none (bitXor (x * generator) (y * generator)) (xor-lt 25 (x * generator) (y * generator) (bit-lt x (hx .0)) (bit-lt y (hy .0))))
+    ∙ ap₂ bitXor (halves (bitXor p q))
+    (none (bitXor (x * generator) (y * generator)) (xor-lt 25 (x * generator) (y * generator) (bit-lt x (hx .0)) (bit-lt y (hy .0))))
     ∙ xor-zero-r (bitXor p q / 16777216) in
     apart xs ys (hx .1) (hy .1) (omega arith) (bitXor (p * 2) (x * generator)) (bitXor (q * 2) (y * generator)) (above _ (bitXor p q) d l)
   where
@@ -201,7 +203,8 @@ told-apart (zero ∷ xs) (suc zero ∷ ys) hx hy e p q =
     absurd (same-upper _ _ q (apart xs ys (hx .1) (hy .1) (omega arith) (bitXor (p * 2) (0 * generator)) (bitXor (p * 2) (1 * generator)) (zero-one p)))
 told-apart (suc zero ∷ xs) (zero ∷ ys) hx hy e p q =
     absurd (same-upper _ _ q (apart xs ys (hx .1) (hy .1) (omega arith) (bitXor (p * 2) (1 * generator)) (bitXor (p * 2) (0 * generator)) (one-zero p)))
-told-apart (suc zero ∷ xs) (suc zero ∷ ys) hx hy e p q = ap (λ (l : List ℕ). 1 ∷ l) (told-apart xs ys (hx .1) (hy .1) (omega arith) (bitXor (p * 2) (1 * generator)) q)
+told-apart (suc zero ∷ xs) (suc zero ∷ ys) hx hy e p q =
+    ap (λ (l : List ℕ). 1 ∷ l) (told-apart xs ys (hx .1) (hy .1) (omega arith) (bitXor (p * 2) (1 * generator)) q)
 told-apart (suc (suc x) ∷ xs) (y ∷ ys) hx hy e p q = absurd (omega arith)
 told-apart (zero ∷ xs) (suc (suc y) ∷ ys) hx hy e p q = absurd (omega arith)
 told-apart (suc zero ∷ xs) (suc (suc y) ∷ ys) hx hy e p q = absurd (omega arith)

@@ -11,30 +11,30 @@ use lib.ListN.{length, take, drop, drop-of-length-le, length-append, length-drop
 use lib.Seq.{sets, sets-eq, length-sets, take-at, drop-drop, length-take-le}
 use borrow.Author.Tests.{eqb-true}
 use Rattle.lists.proofs.Tests.{or-true}
-use Rattle.parity_rules.specs.Messages.{bits, whole}
+use Rattle.parity_rules.specs.Messages.{bits, sevenOrFourteen}
 use Rattle.parity_rules.specs.Division.{remainderOf}
 use Rattle.frames_rules.specs.Bytes.{bytesOf}
 use Rattle.frames_rules.specs.Frames.{front, sealed, framed}
 
 -- ---- the two lengths
-pub whole-cases : (n : ℕ) → whole n ≡ true → (n ≡ 7) ⊎ (n ≡ 14)
-whole-cases n h = go (or-true (eqb n 7) (eqb n 14) h)
+pub seven-or-fourteen : (n : ℕ) → sevenOrFourteen n ≡ true → (n ≡ 7) ⊎ (n ≡ 14)
+seven-or-fourteen n h = go (or-true (eqb n 7) (eqb n 14) h)
   where
     go : (eqb n 7 ≡ true) ⊎ (eqb n 14 ≡ true) → (n ≡ 7) ⊎ (n ≡ 14)
     go (inl e) = inl (eqb-true n 7 e)
     go (inr e) = inr (eqb-true n 14 e)
 
-pub whole-least : (n : ℕ) → whole n ≡ true → 7 ≤ n
-whole-least n h = go (whole-cases n h)
+pub at-least-seven : (n : ℕ) → sevenOrFourteen n ≡ true → 7 ≤ n
+at-least-seven n h = go (seven-or-fourteen n h)
   where
     go : (n ≡ 7) ⊎ (n ≡ 14) → 7 ≤ n
     go (inl e) = omega arith
     go (inr e) = omega arith
 
 -- ---- all but the parity
-pub front-length : (n head mid : ℕ) → whole n ≡ true → length (front n head mid) ≡ n - 3
+pub front-length : (n head mid : ℕ) → sevenOrFourteen n ≡ true → length (front n head mid) ≡ n - 3
 unfolding front
-front-length n head mid h = go (whole-cases n h)
+front-length n head mid h = go (seven-or-fourteen n h)
   where
     go : (n ≡ 7) ⊎ (n ≡ 14) → length (front n head mid) ≡ n - 3
     go (inl e) = rw e
@@ -45,9 +45,9 @@ module _ (s : List ℕ) (head mid : ℕ) where
   headed : 7 ≤ length s → sets s 0 (bytesOf 4 head) ≡ bytesOf 4 head ++ drop 4 s
   headed h = sets-eq (bytesOf 4 head) s 0 (omega arith)
 
-  pub fill-short : whole (length s) ≡ true → (length s ≡ 14 → ⊥) → sets s 0 (bytesOf 4 head) ≡ front (length s) head mid ++ drop (length s - 3) s
+  pub fill-short : sevenOrFourteen (length s) ≡ true → (length s ≡ 14 → ⊥) → sets s 0 (bytesOf 4 head) ≡ front (length s) head mid ++ drop (length s - 3) s
   unfolding front
-  fill-short h l = go (whole-cases (length s) h)
+  fill-short h l = go (seven-or-fourteen (length s) h)
     where
       go : (length s ≡ 7) ⊎ (length s ≡ 14) → sets s 0 (bytesOf 4 head) ≡ front (length s) head mid ++ drop (length s - 3) s
       go (inl e) = rw e (headed (omega arith))
@@ -84,10 +84,10 @@ seal-law s one two r overlay h e q f =
     ∙ ap₂ (λ (l : List ℕ) (k : ℕ). l ++ bytesOf 3 (bitXor k overlay)) t (q ∙ ap (λ (l : List ℕ). remainderOf (bits l)) a)
 
 -- ---- the whole frame
-module _ (s : List ℕ) (head mid : ℕ) (one : List ℕ) (h : whole (length s) ≡ true) (e : one ≡ front (length s) head mid ++ drop (length s - 3) s) where
+module _ (s : List ℕ) (head mid : ℕ) (one : List ℕ) (h : sevenOrFourteen (length s) ≡ true) (e : one ≡ front (length s) head mid ++ drop (length s - 3) s) where
   pub filled-length : length one ≡ length s
   filled-length =
-      omega (arith, ap length e, length-append (front (length s) head mid) (drop (length s - 3) s), front-length (length s) head mid h, length-drop (length s - 3) s, whole-least (length s) h)
+      omega (arith, ap length e, length-append (front (length s) head mid) (drop (length s - 3) s), front-length (length s) head mid h, length-drop (length s - 3) s, at-least-seven (length s) h)
 
   pub write-law : (two : List ℕ) (overlay : ℕ) → two ≡ sealed (take (length one - 3) one) overlay → two ≡ framed (length s) head mid overlay
   write-law two overlay f =

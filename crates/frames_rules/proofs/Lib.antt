@@ -4,11 +4,12 @@ pub mod Numbers
 pub mod Quotient
 pub mod Laying
 pub mod Ranges
-pub mod Judging
+pub mod Lines
 pub mod Heads
 pub mod Sealing
 pub mod Outcomes
 pub mod Invert
 pub mod Unique
+pub mod Interrogations
 pub mod Done
 pub mod Rebuilt

@@ -1,14 +1,14 @@
 -- Numbers as bytes: the steps of the loops that read and write them, and the two ways undo each other.
 use mathlib.Core.Path.{_≡_, refl, sym, ap, ap₂, _∙_}
 use mathlib.Core.List.{List, [], _∷_}
-use Prim.Native.Nat.{ℕ, zero, suc, _+_, _-_, _*_, _/_, _%_, _^_, _<_}
+use Prim.Native.Nat.{ℕ, zero, suc, _+_, _-_, _*_, _/_, _%_, _^_, _<_, _≤_}
 use native.Mathlib.Nat.{lt-of-lt-of-le, add-mul, mul-assoc, add-assoc, mod-eq-of-lt}
 use native.Mathlib.Numerals.{add-one}
 use native.Mathlib.Omega.{arith}
-use lib.ListN.{length, getD, set, drop}
+use lib.ListN.{length, getD, set, take, drop}
 use lib.Arith.{digits-lt, digits-mod}
 use lib.Pow.{pow-add, pow-mono, mod-pow-add, high}
-use lib.Seq.{drop-cons, sets}
+use lib.Seq.{drop-cons, sets, take-all}
 use Rattle.parity_rules.specs.Messages.{AreBytes}
 use Rattle.frames_rules.specs.Bytes.{bytesOf, followed, numberOfBytes}
 use Rattle.lists.specs.Lists.{All}
@@ -75,7 +75,8 @@ pub number-lt : (t : List ℕ) → AreBytes t → numberOfBytes t < 2 ^ (8 * len
 unfolding All
 number-lt [] h = omega arith
 number-lt (b ∷ t) h =
-    rw (eight-more (length t), none-before 256 b, split t b) (digits-lt {q = b} {m = 256} {r = followed 0 t} {c = 2 ^ (8 * length t)} (h .0) (number-lt t (h .1)))
+    rw (eight-more (length t), none-before 256 b, split t b)
+    (digits-lt {q = b} {m = 256} {r = followed 0 t} {c = 2 ^ (8 * length t)} (h .0) (number-lt t (h .1)))
 
 bytes-back : (t : List ℕ) → AreBytes t → (q : ℕ) → bytesOf (length t) (followed q t) ≡ t
 unfolding All
@@ -93,3 +94,10 @@ pub bytes-are : (n v : ℕ) → AreBytes (bytesOf n v)
 unfolding All
 bytes-are zero v = tt
 bytes-are (suc n) v = (omega arith, bytes-are n v)
+
+-- ---- of at most seven bytes the first seven are all
+pub few-bytes : (s : List ℕ) {r : ℕ} → r ≡ numberOfBytes s → length s ≤ 7 → r ≡ numberOfBytes (take 7 s)
+few-bytes s e h = e ∙ ap numberOfBytes (sym (take-all 7 s h))
+
+pub seven-bytes : (s : List ℕ) {r : ℕ} → r ≡ numberOfBytes (take 7 s) → length s ≡ 7 → r ≡ numberOfBytes s
+seven-bytes s e h = e ∙ ap numberOfBytes (take-all 7 s (omega arith))

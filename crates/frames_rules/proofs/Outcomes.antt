@@ -1,34 +1,40 @@
 -- Reading what a builder wrote gives back every field, and its remainder is the overlay.
 use mathlib.Core.Path.{_≡_, refl, sym, ap, _∙_}
-use mathlib.Core.Bool.{Bool, true, false, _&&_, _||_}
+use mathlib.Core.Bool.{Bool, true, false, _||_}
 use mathlib.Core.List.{List, [], _∷_}
 use mathlib.Core.Logic.{_⊎_, inl, inr}
 use Prim.Native.Nat.{ℕ}
 use native.Mathlib.Omega.{arith}
 use lib.Dec.{eqb}
 use lib.ListN.{length}
-use borrow.Author.Tests.{eq-eqb}
+use borrow.Author.Tests.{eq-eqb, ne-eqb, not-false}
 use Rattle.lists.specs.Lists.{pick}
-use Rattle.parity_rules.specs.Messages.{bits, whole}
+use Rattle.lists.specs.Checks.{Check, checked, None, numbered}
+use Rattle.lists.specs.Answers.{Answer, done, refusedBy}
+use Rattle.lists.proofs.Tests.{and-yes}
+use Rattle.lists.proofs.Checks.{CameTo, was-refused, was-done, came-to, all, end, not-off}
+use Rattle.parity_rules.specs.Messages.{bits, sevenOrFourteen}
 use Rattle.parity_rules.specs.Division.{remainderOf}
 use Rattle.parity_rules.specs.Overlays.{overlayOf}
 use Rattle.parity_rules.proofs.Laws.{overlay-lt}
 use Rattle.frames_rules.specs.declared.answers.Built.{Built}
 use Rattle.frames_rules.specs.declared.answers.Built.the-variants.{Done}
-use Rattle.frames_rules.specs.Answers.{Answer, Outcome, done, said, numberOfBuilt, holding, refused, own}
+use Rattle.frames_rules.specs.Answers.{Building, builtSaid, numberOfBuilt, holding, notBuilt, own}
 use Rattle.frames_rules.specs.declared.answers.Address.the-variants.{Is}
 use Rattle.frames_rules.specs.Addresses.{addressOf}
 use Rattle.frames_rules.specs.Bytes.{numberOfBytes}
-use Rattle.frames_rules.specs.Fields.{valueAt, atUF, selectiveHead, allCallHead, replyHead, allCallReplyHead}
+use Rattle.frames_rules.specs.Fields.{headOf, midOf, valueAt, atUF, selectiveHead, allCallHead, replyHead, allCallReplyHead}
 use Rattle.frames_rules.specs.Formats.{longFormat, surveillance, lengthOf, listed}
-use Rattle.frames_rules.specs.Building.{selectiveRanged, allCallRanged, replyRanged, allCallReplyRanged, selective, allCall, aReply, anAllCallReply, building, allCalling, replying, allCallReplying}
+use Rattle.frames_rules.specs.Building.{selectiveRanged, allCallRanged, replyRanged, allCallReplyRanged, selective, allCall, aReply, anAllCallReply}
+use Rattle.frames_rules.specs.Building.{buildingChecks, building, allCallingChecks, allCalling, replyingChecks, replying, allCallReplyingChecks}
+use Rattle.frames_rules.specs.Building.{allCallReplying}
 use Rattle.frames_rules.specs.Reading.{formatOf, readAs, readUp, readDown, selectiveRead, allCallRead, surveillanceRead, allCallReplyRead}
 use Rattle.frames_rules.specs.Codes.{stationRanged, whose, codeOf}
 use Rattle.frames_rules.specs.Shared.{codeNumber}
-use Rattle.frames_rules.proofs.Heads.{selective-lt, selective-format, selective-fields, all-call-lt, all-call-format, all-call-fields, reply-lt, reply-format, reply-fields, all-call-reply-lt, all-call-reply-format, all-call-reply-fields}
+use Rattle.frames_rules.proofs.Heads.{selective-lt, selective-format, selective-fields, all-call-lt, all-call-format, all-call-fields, reply-lt}
+use Rattle.frames_rules.proofs.Heads.{reply-format, reply-fields, all-call-reply-lt, all-call-reply-format, all-call-reply-fields}
 use Rattle.frames_rules.proofs.Invert.{address-back}
-use Rattle.frames_rules.proofs.Judging.{reads-eleven, reads-others, same, code-whose}
-use Rattle.frames_rules.proofs.Ranges.{surveillance-is, surveillance-lt, whole-format, selective-in, all-call-in, reply-in, all-call-reply-in}
+use Rattle.frames_rules.proofs.Ranges.{surveillance-is, surveillance-lt, format-length, selective-in, all-call-in, reply-in, all-call-reply-in}
 use Rattle.frames_rules.proofs.Sealing.{Parts, frame-parts}
 
 -- ---- formats
@@ -53,19 +59,27 @@ long-or-zero f mid (inl e) = inr e
 long-or-zero f mid (inr e) = inl (rw e)
 
 -- ---- a frame of given parts, read
-module _ (eleven : ℕ → ℕ → Answer) (others : ℕ → ℕ → ℕ → Answer) (head mid overlay : ℕ) (m : List ℕ) where
-  surveillance-reads : (f : ℕ) → surveillance f ≡ true → valueAt atUF head ≡ f → Parts (lengthOf f) head mid overlay m → readAs eleven others m ≡ others head mid overlay
-  surveillance-reads f h e p =
-      let q : formatOf m ≡ f = ap (valueAt atUF) (p .head-is) ∙ e in
-      let l : listed (formatOf m) (length m) ≡ true = rw (q, p .length-is) (listed-surveillance f h) in
-      reads-others eleven others m (ap whole (p .length-is) ∙ whole-format f) l (λ z. not-eleven f h (sym q ∙ z))
-      ∙ same others _ _ _ _ _ _ (p .head-is) (p .mid-is) (p .remainder-is)
+module _ (eleven : ℕ → ℕ → Answer) (others : ℕ → ℕ → ℕ → Answer) (m : List ℕ) where
+  -- no line is the case
+  passed-reads : sevenOrFourteen (length m) ≡ true → listed (formatOf m) (length m) ≡ true
+      → readAs eleven others m ≡ pick (eqb (formatOf m) 11) (eleven (headOf m) (remainderOf (bits m))) (others (headOf m) (midOf m) (remainderOf (bits m)))
+  unfolding readAs
+  passed-reads h l = sym (end refusedBy _ all (not-off _ h, (not-off _ l, tt)))
 
-  all-call-reads : valueAt atUF head ≡ 11 → Parts 7 head mid overlay m → readAs eleven others m ≡ eleven head overlay
-  all-call-reads e p =
-      let q : formatOf m ≡ 11 = ap (valueAt atUF) (p .head-is) ∙ e in
-      let l : listed (formatOf m) (length m) ≡ true = rw (q, p .length-is) in
-      reads-eleven eleven others m (ap whole (p .length-is)) l q ∙ same (λ (a b c : ℕ). eleven a c) _ _ 0 0 _ _ (p .head-is) refl (p .remainder-is)
+  module _ (head mid overlay : ℕ) where
+    surveillance-reads : (f : ℕ) → surveillance f ≡ true → valueAt atUF head ≡ f → Parts (lengthOf f) head mid overlay m
+        → readAs eleven others m ≡ others head mid overlay
+    surveillance-reads f h e p =
+        let q : formatOf m ≡ f = ap (valueAt atUF) (p .head-is) ∙ e in
+        let l : listed (formatOf m) (length m) ≡ true = rw (q, p .length-is) (listed-surveillance f h) in
+        passed-reads (ap sevenOrFourteen (p .length-is) ∙ format-length f) l
+        ∙ rw (ne-eqb (formatOf m) 11 (λ z. not-eleven f h (sym q ∙ z)), p .head-is, p .mid-is, p .remainder-is)
+
+    all-call-reads : valueAt atUF head ≡ 11 → Parts 7 head mid overlay m → readAs eleven others m ≡ eleven head overlay
+    all-call-reads e p =
+        let q : formatOf m ≡ 11 = ap (valueAt atUF) (p .head-is) ∙ e in
+        let l : listed (formatOf m) (length m) ≡ true = rw (q, p .length-is) in
+        passed-reads (ap sevenOrFourteen (p .length-is)) l ∙ rw (eq-eqb (formatOf m) 11 q, p .head-is, p .remainder-is)
 
 -- ---- interrogations
 module _ (uf pc rr di sd ma address : ℕ) (hr : selectiveRanged uf pc rr di sd ma address ≡ true) where
@@ -75,12 +89,12 @@ module _ (uf pc rr di sd ma address : ℕ) (hr : selectiveRanged uf pc rr di sd 
       let r = selective-in uf pc rr di sd ma address hr in
       frame-parts (selectiveHead uf pc rr di sd) ma (overlayOf address)
       (selective-lt uf pc rr di sd (surveillance-lt uf (r .format)) (omega arith) (omega arith) (omega arith) (omega arith)) (omega arith) (overlay-lt address)
-      (lengthOf uf) (whole-format uf) (long-or-zero uf ma (r .ma-is))
+      (lengthOf uf) (format-length uf) (long-or-zero uf ma (r .ma-is))
 
   pub read-selective : readUp (selective uf pc rr di sd ma address) ≡ done (uf ∷ pc ∷ rr ∷ di ∷ sd ∷ ma ∷ overlayOf address ∷ [])
   read-selective =
       let r = selective-in uf pc rr di sd ma address hr in
-      surveillance-reads allCallRead selectiveRead (selectiveHead uf pc rr di sd) ma (overlayOf address) (selective uf pc rr di sd ma address) uf (r .format)
+      surveillance-reads allCallRead selectiveRead (selective uf pc rr di sd ma address) (selectiveHead uf pc rr di sd) ma (overlayOf address) uf (r .format)
       (selective-format uf pc rr di sd (surveillance-lt uf (r .format)) (omega arith) (omega arith) (omega arith) (omega arith)) selective-parts
       ∙ selective-fields uf pc rr di sd (surveillance-lt uf (r .format)) (omega arith) (omega arith) (omega arith) (omega arith) ma (overlayOf address)
 
@@ -95,12 +109,14 @@ module _ (pr ic cl : ℕ) (hr : allCallRanged pr ic cl ≡ true) where
   unfolding allCall
   all-call-parts =
       let r = all-call-in pr ic cl hr in
-      frame-parts (allCallHead pr ic cl) 0 (overlayOf 0xFFFFFF) (all-call-lt pr ic cl (omega arith) (omega arith) (omega arith)) (omega arith) (overlay-lt 0xFFFFFF) 7 refl (inr refl)
+      frame-parts (allCallHead pr ic cl) 0 (overlayOf 0xFFFFFF) (all-call-lt pr ic cl (omega arith) (omega arith) (omega arith)) (omega arith)
+      (overlay-lt 0xFFFFFF) 7 refl (inr refl)
 
   pub read-all-call : readUp (allCall pr ic cl) ≡ done (11 ∷ pr ∷ ic ∷ cl ∷ overlayOf 0xFFFFFF ∷ [])
   read-all-call =
       let r = all-call-in pr ic cl hr in
-      all-call-reads allCallRead selectiveRead (allCallHead pr ic cl) 0 (overlayOf 0xFFFFFF) (allCall pr ic cl) (all-call-format pr ic cl (omega arith) (omega arith) (omega arith)) all-call-parts
+      all-call-reads allCallRead selectiveRead (allCall pr ic cl) (allCallHead pr ic cl) 0 (overlayOf 0xFFFFFF)
+      (all-call-format pr ic cl (omega arith) (omega arith) (omega arith)) all-call-parts
       ∙ all-call-fields pr ic cl (omega arith) (omega arith) (omega arith) (overlayOf 0xFFFFFF)
 
 -- ---- replies
@@ -109,13 +125,14 @@ module _ (df fs dr um value mb address : ℕ) (hf : surveillance df ≡ true) (h
   unfolding aReply
   reply-parts =
       let r = reply-in df fs dr um value mb address hr in
-      frame-parts (replyHead df fs dr um value) mb address (reply-lt df fs dr um value (surveillance-lt df hf) (omega arith) (omega arith) (omega arith) (omega arith)) (omega arith) (omega arith)
-      (lengthOf df) (whole-format df) (long-or-zero df mb (r .mb-is))
+      frame-parts (replyHead df fs dr um value) mb address
+      (reply-lt df fs dr um value (surveillance-lt df hf) (omega arith) (omega arith) (omega arith) (omega arith)) (omega arith) (omega arith)
+      (lengthOf df) (format-length df) (long-or-zero df mb (r .mb-is))
 
   pub read-reply : readDown (aReply df fs dr um value mb address) ≡ done (df ∷ fs ∷ dr ∷ um ∷ value ∷ mb ∷ address ∷ [])
   read-reply =
       let r = reply-in df fs dr um value mb address hr in
-      surveillance-reads allCallReplyRead surveillanceRead (replyHead df fs dr um value) mb address (aReply df fs dr um value mb address) df hf
+      surveillance-reads allCallReplyRead surveillanceRead (aReply df fs dr um value mb address) (replyHead df fs dr um value) mb address df hf
       (reply-format df fs dr um value (surveillance-lt df hf) (omega arith) (omega arith) (omega arith) (omega arith)) reply-parts
       ∙ reply-fields df fs dr um value (surveillance-lt df hf) (omega arith) (omega arith) (omega arith) (omega arith) mb address
 
@@ -124,68 +141,60 @@ module _ (ca address cl ic : ℕ) (hr : allCallReplyRanged ca address cl ic ≡ 
   unfolding anAllCallReply
   all-call-reply-parts =
       let r = all-call-reply-in ca address cl ic hr in
-      frame-parts (allCallReplyHead ca address) 0 (codeNumber cl ic) (all-call-reply-lt ca address (omega arith) (omega arith)) (omega arith) (omega arith) 7 refl (inr refl)
+      frame-parts (allCallReplyHead ca address) 0 (codeNumber cl ic) (all-call-reply-lt ca address (omega arith) (omega arith)) (omega arith) (omega arith) 7
+      refl (inr refl)
 
   pub read-all-call-reply : readDown (anAllCallReply ca address cl ic) ≡ done (11 ∷ ca ∷ address ∷ codeNumber cl ic ∷ [])
   read-all-call-reply =
       let r = all-call-reply-in ca address cl ic hr in
-      all-call-reads allCallReplyRead surveillanceRead (allCallReplyHead ca address) 0 (codeNumber cl ic) (anAllCallReply ca address cl ic)
+      all-call-reads allCallReplyRead surveillanceRead (anAllCallReply ca address cl ic) (allCallReplyHead ca address) 0 (codeNumber cl ic)
       (all-call-reply-format ca address (omega arith) (omega arith)) all-call-reply-parts
       ∙ all-call-reply-fields ca address (omega arith) (omega arith) (codeNumber cl ic)
 
   -- the station whose code it carries reads its own
   pub own-code : (permit : ℕ) → stationRanged cl ic permit ≡ true → codeOf (anAllCallReply ca address cl ic) cl ic permit ≡ done own
-  unfolding whose
+  unfolding codeOf whose
   own-code permit hs =
       let r = all-call-reply-in ca address cl ic hr in
       let p = all-call-reply-parts in
-      code-whose (anAllCallReply ca address cl ic) cl ic permit (ap whole (p .length-is)) hs (p .length-is) (ap (valueAt atUF) (p .head-is) ∙ all-call-reply-format ca address (omega arith) (omega arith))
+      let f = ap (valueAt atUF) (p .head-is) ∙ all-call-reply-format ca address (omega arith) (omega arith) in
+      sym (end refusedBy _ all (not-off _ (ap sevenOrFourteen (p .length-is)), (not-off _ hs, (not-off _ (and-yes _ _ (eq-eqb _ 7 (p .length-is)) (eq-eqb _ 11 f)), tt))))
       ∙ rw (p .remainder-is, eq-eqb (codeNumber cl ic) (codeNumber cl ic) refl)
 
 -- ---- the same of what the calls answer
-three-passed : (a b c : Bool) (x out : List ℕ) → pick a (pick b (pick c (holding x) (refused 2 out)) (refused 1 out)) (refused 2 out) .number ≡ 0 → (a ≡ true) × (b ≡ true) × (c ≡ true)
-three-passed true true true x out e = (refl, refl, refl)
-three-passed true true false x out e = absurd (omega arith)
-three-passed true false c x out e = absurd (omega arith)
-three-passed false b c x out e = absurd (omega arith)
-
-two-passed : (b c : Bool) (x out : List ℕ) → pick b (pick c (holding x) (refused 2 out)) (refused 1 out) .number ≡ 0 → (b ≡ true) × (c ≡ true)
-two-passed true true x out e = (refl, refl)
-two-passed true false x out e = absurd (omega arith)
-two-passed false c x out e = absurd (omega arith)
-
-zero-number : (b : Built) (out′ : List ℕ) (o : Outcome) → said b out′ ≡ o → b ≡ Done → o .number ≡ 0
-zero-number b out′ o e d = sym (ap (λ (x : Outcome). x .number) e) ∙ ap numberOfBuilt d
+built-passed : (cs : List Check) (out x out′ : List ℕ) (b : Built) → numbered cs ≡ true → builtSaid b out′ ≡ checked cs (notBuilt out) (holding x) → b ≡ Done
+    → None cs × (out′ ≡ x)
+built-passed cs out x out′ b z e d = go (checked cs (notBuilt out) (holding x)) e (came-to (notBuilt out) (holding x) cs z)
+  where
+    go : (o : Building) → builtSaid b out′ ≡ o → CameTo cs (notBuilt out) (holding x) o → None cs × (out′ ≡ x)
+    go o e (was-refused c m k g q) = absurd (m (sym (ap (λ (y : Building). y .number) (e ∙ q)) ∙ ap numberOfBuilt d))
+    go o e (was-done p g q) = (p .none, ap (λ (y : Building). y .output) (e ∙ q))
 
 pub build-reads : (uf pc rr di sd : ℕ) (ma : List ℕ) (address : ℕ) (out out′ : List ℕ) (b : Built)
-    → said b out′ ≡ building uf pc rr di sd ma address out → b ≡ Done
+    → builtSaid b out′ ≡ building uf pc rr di sd ma address out → b ≡ Done
     → readUp out′ ≡ done (uf ∷ pc ∷ rr ∷ di ∷ sd ∷ numberOfBytes ma ∷ overlayOf address ∷ [])
 unfolding building
 build-reads uf pc rr di sd ma address out out′ b e d =
-    let p = three-passed (surveillance uf) (eqb (length out) (lengthOf uf) && eqb (length ma) 7) (selectiveRanged uf pc rr di sd (numberOfBytes ma) address) (selective uf pc rr di sd (numberOfBytes ma) address) out (zero-number b out′ _ e d) in
-    let o : out′ ≡ selective uf pc rr di sd (numberOfBytes ma) address = rw (p .0, p .1, p .2) at (ap (λ (x : Outcome). x .output) e) in
-    ap readUp o ∙ read-selective uf pc rr di sd (numberOfBytes ma) address (p .2)
+    let p = built-passed (buildingChecks uf pc rr di sd ma address out) out (selective uf pc rr di sd (numberOfBytes ma) address) out′ b refl e d in
+    ap readUp (p .1) ∙ read-selective uf pc rr di sd (numberOfBytes ma) address (not-false _ (p .0 .1 .1 .0))
 
-pub all-call-built-reads : (pr ic cl : ℕ) (out out′ : List ℕ) (b : Built) → said b out′ ≡ allCalling pr ic cl out → b ≡ Done
+pub all-call-built-reads : (pr ic cl : ℕ) (out out′ : List ℕ) (b : Built) → builtSaid b out′ ≡ allCalling pr ic cl out → b ≡ Done
     → readUp out′ ≡ done (11 ∷ pr ∷ ic ∷ cl ∷ overlayOf 0xFFFFFF ∷ [])
 unfolding allCalling
 all-call-built-reads pr ic cl out out′ b e d =
-    let p = two-passed (eqb (length out) 7) (allCallRanged pr ic cl) (allCall pr ic cl) out (zero-number b out′ _ e d) in
-    let o : out′ ≡ allCall pr ic cl = rw (p .0, p .1) at (ap (λ (x : Outcome). x .output) e) in
-    ap readUp o ∙ read-all-call pr ic cl (p .1)
+    let p = built-passed (allCallingChecks pr ic cl out) out (allCall pr ic cl) out′ b refl e d in
+    ap readUp (p .1) ∙ read-all-call pr ic cl (not-false _ (p .0 .1 .0))
 
-pub reply-reads : (df fs dr um value mb address : ℕ) (out out′ : List ℕ) (b : Built) → said b out′ ≡ replying df fs dr um value mb address out → b ≡ Done
+pub reply-reads : (df fs dr um value mb address : ℕ) (out out′ : List ℕ) (b : Built) → builtSaid b out′ ≡ replying df fs dr um value mb address out → b ≡ Done
     → readDown out′ ≡ done (df ∷ fs ∷ dr ∷ um ∷ value ∷ mb ∷ address ∷ [])
 unfolding replying
 reply-reads df fs dr um value mb address out out′ b e d =
-    let p = three-passed (surveillance df) (eqb (length out) (lengthOf df)) (replyRanged df fs dr um value mb address) (aReply df fs dr um value mb address) out (zero-number b out′ _ e d) in
-    let o : out′ ≡ aReply df fs dr um value mb address = rw (p .0, p .1, p .2) at (ap (λ (x : Outcome). x .output) e) in
-    ap readDown o ∙ read-reply df fs dr um value mb address (p .0) (p .2)
+    let p = built-passed (replyingChecks df fs dr um value mb address out) out (aReply df fs dr um value mb address) out′ b refl e d in
+    ap readDown (p .1) ∙ read-reply df fs dr um value mb address (not-false _ (p .0 .0)) (not-false _ (p .0 .1 .1 .0))
 
-pub all-call-reply-reads : (ca address cl ic : ℕ) (out out′ : List ℕ) (b : Built) → said b out′ ≡ allCallReplying ca address cl ic out → b ≡ Done
+pub all-call-reply-reads : (ca address cl ic : ℕ) (out out′ : List ℕ) (b : Built) → builtSaid b out′ ≡ allCallReplying ca address cl ic out → b ≡ Done
     → readDown out′ ≡ done (11 ∷ ca ∷ address ∷ codeNumber cl ic ∷ [])
 unfolding allCallReplying
 all-call-reply-reads ca address cl ic out out′ b e d =
-    let p = two-passed (eqb (length out) 7) (allCallReplyRanged ca address cl ic) (anAllCallReply ca address cl ic) out (zero-number b out′ _ e d) in
-    let o : out′ ≡ anAllCallReply ca address cl ic = rw (p .0, p .1) at (ap (λ (x : Outcome). x .output) e) in
-    ap readDown o ∙ read-all-call-reply ca address cl ic (p .1)
+    let p = built-passed (allCallReplyingChecks ca address cl ic out) out (anAllCallReply ca address cl ic) out′ b refl e d in
+    ap readDown (p .1) ∙ read-all-call-reply ca address cl ic (not-false _ (p .0 .1 .0))

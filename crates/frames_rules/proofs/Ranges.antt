@@ -9,14 +9,15 @@ use lib.Dec.{eqb, leb}
 use borrow.Author.Tests.{eqb-true, leb-true}
 use Rattle.lists.specs.Lists.{pick}
 use Rattle.lists.proofs.Tests.{and-true, or-true}
-use Rattle.parity_rules.specs.Messages.{whole}
+use Rattle.parity_rules.specs.Messages.{sevenOrFourteen}
 use Rattle.parity_rules.specs.Overlays.{overlayOf}
 use Rattle.frames_rules.specs.Codes.{stationRanged}
 use Rattle.frames_rules.specs.Shared.{codeNumber}
 use Rattle.frames_rules.specs.Fields.{selectiveHead, allCallHead, replyHead, allCallReplyHead}
 use Rattle.frames_rules.specs.Formats.{longFormat, surveillance, lengthOf}
 use Rattle.frames_rules.specs.Frames.{framed}
-use Rattle.frames_rules.specs.Building.{isAddress, selectiveRanged, allCallRanged, replyRanged, allCallReplyRanged, selective, allCall, aReply, anAllCallReply}
+use Rattle.frames_rules.specs.Building.{isAddress, selectiveRanged, allCallRanged, replyRanged, allCallReplyRanged, selective, allCall, aReply}
+use Rattle.frames_rules.specs.Building.{anAllCallReply}
 
 -- ---- formats
 one-of : (f a b : ℕ) → eqb f a || eqb f b ≡ true → (f ≡ a) ⊎ (f ≡ b)
@@ -45,10 +46,10 @@ surveillance-lt f h = go (surveillance-is f h)
     go (inr (inl e)) = omega arith
     go (inr (inr e)) = omega arith
 
-pub whole-format : (f : ℕ) → whole (lengthOf f) ≡ true
-whole-format f = go (longFormat f)
+pub format-length : (f : ℕ) → sevenOrFourteen (lengthOf f) ≡ true
+format-length f = go (longFormat f)
   where
-    go : (b : Bool) → whole (pick b 14 7) ≡ true
+    go : (b : Bool) → sevenOrFourteen (pick b 14 7) ≡ true
     go true = refl
     go false = refl
 
@@ -146,10 +147,11 @@ station-in cl ic permit h =
     (leb-true cl 7 (u .0), leb-true ic 15 (u .1), leb-true permit 1 (t .1))
 
 -- ---- the frame that is written, from what the private functions gave
-pub selective-is : (x : List ℕ) (uf pc rr di sd ma address n head overlay : ℕ)
-    → x ≡ framed n head ma overlay → n ≡ lengthOf uf → head ≡ selectiveHead uf pc rr di sd → overlay ≡ overlayOf address → x ≡ selective uf pc rr di sd ma address
+pub selective-is : (x : List ℕ) (uf pc rr di sd ma address n head mid overlay : ℕ)
+    → x ≡ framed n head mid overlay → n ≡ lengthOf uf → head ≡ selectiveHead uf pc rr di sd → mid ≡ ma → overlay ≡ overlayOf address
+    → x ≡ selective uf pc rr di sd ma address
 unfolding selective
-selective-is x uf pc rr di sd ma address n head overlay e a b c = cc
+selective-is x uf pc rr di sd ma address n head mid overlay e a b c d = cc
 
 pub all-call-is : (x : List ℕ) (pr ic cl n head overlay : ℕ)
     → x ≡ framed n head 0 overlay → n ≡ 7 → head ≡ allCallHead pr ic cl → overlay ≡ overlayOf 0xFFFFFF → x ≡ allCall pr ic cl

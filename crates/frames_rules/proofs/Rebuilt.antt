@@ -7,22 +7,24 @@ use Prim.Native.Nat.{ℕ, _+_, _%_, _<_, _≤_}
 use native.Mathlib.Omega.{arith}
 use lib.Dec.{eqb, leb}
 use lib.ListN.{length, getD}
-use borrow.Author.Tests.{eqb-true, eq-eqb, le-leb}
-use Rattle.lists.specs.Lists.{pick}
+use borrow.Author.Tests.{eqb-true, eq-eqb, le-leb, not-false}
+use Rattle.lists.specs.Lists.{pick, All}
+use Rattle.lists.specs.Answers.{Answer, done, refusal, refusedBy}
 use Rattle.lists.proofs.Tests.{and-true, and-yes}
-use Rattle.parity_rules.specs.Messages.{bits, whole, AreBytes}
+use Rattle.lists.proofs.Checks.{whichever, all, end, not-off}
+use Rattle.parity_rules.specs.Messages.{bits, sevenOrFourteen, AreBytes}
 use Rattle.parity_rules.specs.Division.{remainderOf}
 use Rattle.parity_rules.specs.Overlays.{overlayOf}
-use Rattle.frames_rules.specs.Answers.{Answer, done, refusal, holding}
+use Rattle.frames_rules.specs.Answers.{holding, notBuilt}
 use Rattle.frames_rules.specs.Bytes.{numberOfBytes}
 use Rattle.frames_rules.specs.Fields.{headOf, midOf, valueAt, atUF, atPC, atRR, atDI, atSD, selectiveHead, allCallHead, replyHead, allCallReplyHead}
 use Rattle.frames_rules.specs.Formats.{longFormat, surveillance, lengthOf, listed}
 use Rattle.frames_rules.specs.Frames.{framed}
 use Rattle.frames_rules.specs.Building.{selectiveRanged, selective, allCall, aReply, anAllCallReply, building}
-use Rattle.frames_rules.specs.Reading.{formatOf, readAs, readUp, readDown, selectiveRead, allCallRead, surveillanceRead, allCallReplyRead}
+use Rattle.frames_rules.specs.Reading.{formatOf, readChecks, readAs, readUp, readDown, selectiveRead, allCallRead, surveillanceRead, allCallReplyRead}
 use Rattle.frames_rules.specs.Shared.{codeNumber}
 use Rattle.frames_rules.proofs.Heads.{selective-again, all-call-again, reply-again, all-call-reply-again}
-use Rattle.frames_rules.proofs.Laying.{whole-least}
+use Rattle.frames_rules.proofs.Laying.{at-least-seven}
 use Rattle.frames_rules.proofs.Ranges.{surveillance-is}
 use Rattle.frames_rules.proofs.Sealing.{same-frame, head-lt, mid-le}
 
@@ -30,8 +32,8 @@ use Rattle.frames_rules.proofs.Sealing.{same-frame, head-lt, mid-le}
 pub data Read (eleven : ℕ → ℕ → Answer) (others : ℕ → ℕ → ℕ → Answer) (m : List ℕ) : Answer → Type 0 where
   no-length : Read eleven others m (refusal 1)
   no-format : Read eleven others m (refusal 14)
-  an-eleven : whole (length m) ≡ true → length m ≡ 7 → formatOf m ≡ 11 → Read eleven others m (eleven (headOf m) (remainderOf (bits m)))
-  another : whole (length m) ≡ true → length m ≡ lengthOf (formatOf m) → surveillance (formatOf m) ≡ true
+  an-eleven : sevenOrFourteen (length m) ≡ true → length m ≡ 7 → formatOf m ≡ 11 → Read eleven others m (eleven (headOf m) (remainderOf (bits m)))
+  another : sevenOrFourteen (length m) ≡ true → length m ≡ lengthOf (formatOf m) → surveillance (formatOf m) ≡ true
       → Read eleven others m (others (headOf m) (midOf m) (remainderOf (bits m)))
 
 seven-eleven : (f n : ℕ) → f ≡ 11 → n ≡ lengthOf f → n ≡ 7
@@ -41,35 +43,36 @@ or-other : (a b : Bool) → a ≡ false → a || b ≡ true → b ≡ true
 or-other a b e h = rw e at h
 
 pub read-cases : (eleven : ℕ → ℕ → Answer) (others : ℕ → ℕ → ℕ → Answer) (m : List ℕ) → Read eleven others m (readAs eleven others m)
-unfolding readAs
-read-cases eleven others m = go (whole (length m)) (listed (formatOf m) (length m)) (eqb (formatOf m) 11) refl refl refl
+unfolding All readAs
+read-cases eleven others m =
+    whichever (Read eleven others m) (readChecks m) refusedBy _ (no-length, (no-format, tt))
+    (λ p. go (not-false _ (p .off 1)) (not-false _ (p .off 14)) (eqb (formatOf m) 11) refl)
   where
-    go : (a b c : Bool) → whole (length m) ≡ a → listed (formatOf m) (length m) ≡ b → eqb (formatOf m) 11 ≡ c
-        → Read eleven others m (pick a (pick b (pick c (eleven (headOf m) (remainderOf (bits m))) (others (headOf m) (midOf m) (remainderOf (bits m)))) (refusal 14)) (refusal 1))
-    go false b c ea eb ec = no-length
-    go true false c ea eb ec = no-format
-    go true true true ea eb ec =
-        let f = eqb-true (formatOf m) 11 ec in
-        let t = and-true (eqb (length m) (lengthOf (formatOf m))) (eqb (formatOf m) 11 || surveillance (formatOf m)) eb in
-        an-eleven ea (seven-eleven (formatOf m) (length m) f (eqb-true (length m) (lengthOf (formatOf m)) (t .0))) f
-    go true true false ea eb ec =
-        let t = and-true (eqb (length m) (lengthOf (formatOf m))) (eqb (formatOf m) 11 || surveillance (formatOf m)) eb in
-        another ea (eqb-true (length m) (lengthOf (formatOf m)) (t .0)) (or-other (eqb (formatOf m) 11) (surveillance (formatOf m)) ec (t .1))
+    go : sevenOrFourteen (length m) ≡ true → listed (formatOf m) (length m) ≡ true → (b : Bool) → eqb (formatOf m) 11 ≡ b
+        → Read eleven others m (pick b (eleven (headOf m) (remainderOf (bits m))) (others (headOf m) (midOf m) (remainderOf (bits m))))
+    go w l true e =
+        let f = eqb-true (formatOf m) 11 e in
+        let t = and-true (eqb (length m) (lengthOf (formatOf m))) (eqb (formatOf m) 11 || surveillance (formatOf m)) l in
+        an-eleven w (seven-eleven (formatOf m) (length m) f (eqb-true (length m) (lengthOf (formatOf m)) (t .0))) f
+    go w l false e =
+        let t = and-true (eqb (length m) (lengthOf (formatOf m))) (eqb (formatOf m) 11 || surveillance (formatOf m)) l in
+        another w (eqb-true (length m) (lengthOf (formatOf m)) (t .0)) (or-other (eqb (formatOf m) 11) (surveillance (formatOf m)) e (t .1))
 
 -- ---- a frame from parts that are the message's own
 short-mid : (m : List ℕ) → length m ≡ 7 → midOf m ≡ 0
 unfolding midOf
 short-mid m e = rw e
 
-frame-of : (m : List ℕ) → AreBytes m → whole (length m) ≡ true → (n head mid overlay : ℕ) → n ≡ length m → head ≡ headOf m → mid ≡ midOf m → overlay ≡ remainderOf (bits m)
+frame-of : (m : List ℕ) → AreBytes m → sevenOrFourteen (length m) ≡ true → (n head mid overlay : ℕ) → n ≡ length m → head ≡ headOf m → mid ≡ midOf m
+    → overlay ≡ remainderOf (bits m)
     → framed n head mid overlay ≡ m
 frame-of m h w n head mid overlay a b c d = alike ∙ same-frame m h w
   where
     alike : framed n head mid overlay ≡ framed (length m) (headOf m) (midOf m) (remainderOf (bits m))
     alike = cc
 
-head-fits : (m : List ℕ) → AreBytes m → whole (length m) ≡ true → headOf m < 4294967296
-head-fits m h w = head-lt m h (omega (arith, whole-least (length m) w))
+head-fits : (m : List ℕ) → AreBytes m → sevenOrFourteen (length m) ≡ true → headOf m < 4294967296
+head-fits m h w = head-lt m h (omega (arith, at-least-seven (length m) w))
 
 -- the i-th value of an answer, and how many there are
 nth : ℕ → Answer → ℕ
@@ -82,7 +85,7 @@ count a = length (a .values)
 module _ (m : List ℕ) (h : AreBytes m) (uf pc rr di sd ma r : ℕ) where
   -- what stands where in a message that reads so
   pub record Selective : Type 0 where
-    pub measured : whole (length m) ≡ true
+    pub measured : sevenOrFourteen (length m) ≡ true
     pub length-is : length m ≡ lengthOf uf
     pub format-is : surveillance uf ≡ true
     pub at-uf : uf ≡ valueAt atUF (headOf m)
@@ -122,7 +125,8 @@ module _ (m : List ℕ) (h : AreBytes m) (uf pc rr di sd ma r : ℕ) where
     selective-rebuilt =
         let s = selective-of e in
         let hd : selectiveHead uf pc rr di sd ≡ headOf m = same-head s ∙ selective-again (headOf m) (head-fits m h (s .measured)) in
-        frame-of m h (s .measured) (lengthOf uf) (selectiveHead uf pc rr di sd) ma (overlayOf address) (sym (s .length-is)) hd (s .ma-is) (sym o ∙ s .remainder-is)
+        frame-of m h (s .measured) (lengthOf uf) (selectiveHead uf pc rr di sd) ma (overlayOf address) (sym (s .length-is)) hd (s .ma-is)
+        (sym o ∙ s .remainder-is)
       where
         same-head : Selective → selectiveHead uf pc rr di sd ≡ selectiveHead (valueAt atUF (headOf m)) (valueAt atPC (headOf m)) (valueAt atRR (headOf m)) (valueAt atDI (headOf m)) (valueAt atSD (headOf m))
         same-head s = cc (s .at-uf, s .at-pc, s .at-rr, s .at-di, s .at-sd)
@@ -154,7 +158,9 @@ module _ (m : List ℕ) (h : AreBytes m) (uf pc rr di sd ma r : ℕ) where
         let s = selective-of e in
         let t : selectiveRanged uf pc rr di sd (numberOfBytes seven) address ≡ true =
         rw (n, s .format-is, le-leb pc 7 (omega (arith, s .at-pc)), le-leb rr 31 (omega (arith, s .at-rr)), le-leb di 7 (omega (arith, s .at-di)), le-leb sd 65535 (omega (arith, s .at-sd)), le-leb 1 address low, le-leb address 16777214 high) (zero-or-long s) in
-        rw (t, s .format-is, eq-eqb (length out) (lengthOf uf) (k ∙ s .length-is), eq-eqb (length seven) 7 l, n) (ap holding selective-rebuilt)
+        sym (end (notBuilt out) _ all
+        (not-off _ (s .format-is), (not-off _ (and-yes _ _ (eq-eqb (length out) (lengthOf uf) (k ∙ s .length-is)) (eq-eqb (length seven) 7 l)), (not-off _ t, tt))))
+        ∙ rw n (ap holding selective-rebuilt)
 
 -- ---- UF 11, up to bits 17 to 32
 module _ (m : List ℕ) (h : AreBytes m) (pr ic cl r : ℕ) (e : readUp m ≡ done (11 ∷ pr ∷ ic ∷ cl ∷ r ∷ [])) where
@@ -177,7 +183,9 @@ module _ (m : List ℕ) (h : AreBytes m) (pr ic cl r : ℕ) (e : readUp m ≡ do
       go a (an-eleven w l f) q =
           record {
             length-is = l;
-            same-bits = ap (λ (k : ℕ). k + headOf m % 65536) (same-head _ _ _ (ap (nth 1) q) (ap (nth 2) q) (ap (nth 3) q)) ∙ all-call-again (headOf m) (head-fits m h w) f;
+            same-bits =
+                ap (λ (k : ℕ). k + headOf m % 65536) (same-head _ _ _ (ap (nth 1) q) (ap (nth 2) q) (ap (nth 3) q))
+                ∙ all-call-again (headOf m) (head-fits m h w) f;
             remainder-is = sym (ap (nth 4) q);
           }
 
@@ -187,7 +195,8 @@ module _ (m : List ℕ) (h : AreBytes m) (pr ic cl r : ℕ) (e : readUp m ≡ do
   all-call-rebuilt o z =
       let s = all-call-of in
       let hd : allCallHead pr ic cl ≡ headOf m = omega (arith, s .same-bits) in
-      frame-of m h (ap whole (s .length-is)) 7 (allCallHead pr ic cl) 0 (overlayOf 0xFFFFFF) (sym (s .length-is)) hd (sym (short-mid m (s .length-is))) (sym o ∙ s .remainder-is)
+      frame-of m h (ap sevenOrFourteen (s .length-is)) 7 (allCallHead pr ic cl) 0 (overlayOf 0xFFFFFF) (sym (s .length-is)) hd
+      (sym (short-mid m (s .length-is))) (sym o ∙ s .remainder-is)
 
 -- ---- DF 4, 5, 20, 21
 pub reply-rebuilt : (m : List ℕ) → AreBytes m → (df fs dr um value mb address : ℕ) → readDown m ≡ done (df ∷ fs ∷ dr ∷ um ∷ value ∷ mb ∷ address ∷ [])
@@ -198,7 +207,8 @@ reply-rebuilt m h df fs dr um value mb address e = go (readDown m) (read-cases a
     same-head : (a b c d k : ℕ) → a ≡ df → b ≡ fs → c ≡ dr → d ≡ um → k ≡ value → replyHead df fs dr um value ≡ replyHead a b c d k
     same-head a b c d k p q r s t = cc
 
-    go : (a : Answer) → Read allCallReplyRead surveillanceRead m a → a ≡ done (df ∷ fs ∷ dr ∷ um ∷ value ∷ mb ∷ address ∷ []) → aReply df fs dr um value mb address ≡ m
+    go : (a : Answer) → Read allCallReplyRead surveillanceRead m a → a ≡ done (df ∷ fs ∷ dr ∷ um ∷ value ∷ mb ∷ address ∷ [])
+        → aReply df fs dr um value mb address ≡ m
     go a no-length q = absurd (omega (arith, ap count q))
     go a no-format q = absurd (omega (arith, ap count q))
     go a (an-eleven w l f) q = absurd (omega (arith, ap count q))

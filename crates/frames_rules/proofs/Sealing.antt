@@ -13,13 +13,13 @@ use borrow.Author.Tests.{eqb-true}
 use Rattle.lists.specs.Lists.{pick, All}
 use Rattle.lists.proofs.Xor.{xor-back}
 use Rattle.lists.proofs.Held.{all-append, all-take, all-drop}
-use Rattle.parity_rules.specs.Messages.{bits, whole, AreBytes}
+use Rattle.parity_rules.specs.Messages.{bits, sevenOrFourteen, AreBytes}
 use Rattle.parity_rules.specs.Division.{remainderOf}
 use Rattle.parity_rules.proofs.Laws.{parity-over, remainder-lt}
 use Rattle.frames_rules.specs.Bytes.{bytesOf, numberOfBytes}
 use Rattle.frames_rules.specs.Fields.{headOf, midOf}
 use Rattle.frames_rules.specs.Frames.{front, sealed, framed}
-use Rattle.frames_rules.proofs.Laying.{whole-cases}
+use Rattle.frames_rules.proofs.Laying.{seven-or-fourteen}
 use Rattle.frames_rules.proofs.Numbers.{number-bytes, number-lt, bytes-number, bytes-are}
 
 -- ---- the parity
@@ -76,10 +76,11 @@ module _ (head mid overlay : ℕ) (hh : head < 4294967296) (hm : mid < 720575940
   long-parts : Parts 14 head mid overlay (framed 14 head mid overlay)
   unfolding front sealed headOf midOf
   long-parts =
-      record { length-is = refl; head-is = number-bytes 4 head hh; mid-is = number-bytes 7 mid hm; remainder-is = sealed-remainder (front 14 head mid) overlay ho }
+      record
+      { length-is = refl; head-is = number-bytes 4 head hh; mid-is = number-bytes 7 mid hm; remainder-is = sealed-remainder (front 14 head mid) overlay ho }
 
-  pub frame-parts : (n : ℕ) → whole n ≡ true → (n ≡ 14) ⊎ (mid ≡ 0) → Parts n head mid overlay (framed n head mid overlay)
-  frame-parts n w z = go (whole-cases n w) z
+  pub frame-parts : (n : ℕ) → sevenOrFourteen n ≡ true → (n ≡ 14) ⊎ (mid ≡ 0) → Parts n head mid overlay (framed n head mid overlay)
+  frame-parts n w z = go (seven-or-fourteen n w) z
     where
       go : (n ≡ 7) ⊎ (n ≡ 14) → (n ≡ 14) ⊎ (mid ≡ 0) → Parts n head mid overlay (framed n head mid overlay)
       go (inr e) y = rw e long-parts
@@ -100,9 +101,9 @@ module _ (m : List ℕ) (h : AreBytes m) where
   long-front e =
       rw e (ap₂ (λ (a b : List ℕ). a ++ b) (part-bytes 4 m (omega arith) h) (part-bytes 7 (drop 4 m) (omega (arith, length-drop 4 m)) (all-drop (λ b. b < 256) 4 m h)) ∙ sym (take-add 4 7 m))
 
-  module _ (w : whole (length m) ≡ true) where
+  module _ (w : sevenOrFourteen (length m) ≡ true) where
     pub same-front : front (length m) (headOf m) (midOf m) ≡ take (length m - 3) m
-    same-front = go (whole-cases (length m) w)
+    same-front = go (seven-or-fourteen (length m) w)
       where
         go : (length m ≡ 7) ⊎ (length m ≡ 14) → front (length m) (headOf m) (midOf m) ≡ take (length m - 3) m
         go (inl e) = short-front e
@@ -112,7 +113,7 @@ module _ (m : List ℕ) (h : AreBytes m) where
     same-frame =
         let k = length m - 3 in
         let e : take k m ++ drop k m ≡ m = take-append-drop k m in
-        let t : length (drop k m) ≡ 3 = go (whole-cases (length m) w) in
+        let t : length (drop k m) ≡ 3 = go (seven-or-fourteen (length m) w) in
         ap (λ (l : List ℕ). sealed l (remainderOf (bits m))) same-front
         ∙ ap (λ (l : List ℕ). sealed (take k m) (remainderOf (bits l))) (sym e)
         ∙ sealed-by (take k m) (drop k m) (all-drop (λ b. b < 256) k m h) t
@@ -142,7 +143,9 @@ module _ (m : List ℕ) (h : AreBytes m) where
 -- ---- a frame is bytes
 pub frame-bytes : (n head mid overlay : ℕ) → AreBytes (framed n head mid overlay)
 unfolding All front sealed
-frame-bytes n head mid overlay = all-append (λ b. b < 256) (bytesOf 4 head ++ pick (eqb n 14) (bytesOf 7 mid) []) (bytesOf 3 _) (all-append (λ b. b < 256) (bytesOf 4 head) (pick (eqb n 14) (bytesOf 7 mid) []) (bytes-are 4 head) (go (eqb n 14))) (bytes-are 3 _)
+frame-bytes n head mid overlay =
+    all-append (λ b. b < 256) (bytesOf 4 head ++ pick (eqb n 14) (bytesOf 7 mid) []) (bytesOf 3 _)
+    (all-append (λ b. b < 256) (bytesOf 4 head) (pick (eqb n 14) (bytesOf 7 mid) []) (bytes-are 4 head) (go (eqb n 14))) (bytes-are 3 _)
   where
     go : (b : Bool) → AreBytes (pick b (bytesOf 7 mid) [])
     go true = bytes-are 7 mid

@@ -1,4 +1,4 @@
--- An outcome is unique: answers that say the same are the same answer; a code is that of one CL and IC alone.
+-- What an answer says is unique: answers that say the same are the same answer; a code is that of one CL and IC alone.
 use mathlib.Core.Path.{_≡_, refl, sym, ap, _∙_}
 use mathlib.Core.Bool.{Bool, true, false, _&&_, not}
 use mathlib.Core.List.{List}
@@ -8,6 +8,7 @@ use lib.Dec.{eqb, leb}
 use lib.ListN.{length, getD}
 use borrow.Author.Tests.{leb-true, eqb-true, eqb-false}
 use Rattle.lists.specs.Lists.{pick}
+use Rattle.lists.specs.Answers.{Answer}
 use Rattle.lists.proofs.Tests.{and-true}
 use Rattle.frames_rules.specs.declared.answers.Built.{Built}
 use Rattle.frames_rules.specs.declared.answers.Built.the-variants as built
@@ -23,23 +24,23 @@ use Rattle.frames_rules.specs.declared.answers.Draws.{Draws}
 use Rattle.frames_rules.specs.declared.answers.Draws.the-variants as draws
 use Rattle.frames_rules.specs.declared.answers.Address.{Address}
 use Rattle.frames_rules.specs.declared.answers.Address.the-variants as address
-use Rattle.frames_rules.specs.Answers.{Outcome, Answer, said, upSaid, downSaid, codeSaid, interrogatorSaid, drawsSaid, addressSaid}
+use Rattle.frames_rules.specs.Answers.{Building, builtSaid, upSaid, downSaid, codeSaid, interrogatorSaid, drawsSaid, addressSaid}
 use Rattle.frames_rules.specs.Shared.{ofSI, siNumber, codeFor, codeTold, drawn, drawnTold}
 use Rattle.frames_rules.specs.Addresses.{addressOf, addressTold}
 
 -- ---- builders
-builtBy : Outcome → Built
+builtBy : Building → Built
 builtBy o = pick (eqb (o .number) 0) built.Done (pick (eqb (o .number) 1) built.Length built.Range)
 
-built-back : (b : Built) (o : List ℕ) → builtBy (said b o) ≡ b
+built-back : (b : Built) (o : List ℕ) → builtBy (builtSaid b o) ≡ b
 unfolding builtBy
 built-back built.Done o = refl
 built-back built.Length o = refl
 built-back built.Range o = refl
 
 -- the same number and buffer: the same answer with the same buffer
-pub built-one : (a b : Built) (o p : List ℕ) → said a o ≡ said b p → (a ≡ b) × (o ≡ p)
-built-one a b o p e = (sym (built-back a o) ∙ ap builtBy e ∙ built-back b p, ap (λ (x : Outcome). x .output) e)
+pub built-one : (a b : Built) (o p : List ℕ) → builtSaid a o ≡ builtSaid b p → (a ≡ b) × (o ≡ p)
+built-one a b o p e = (sym (built-back a o) ∙ ap builtBy e ∙ built-back b p, ap (λ (x : Building). x .output) e)
 
 -- ---- readers
 -- the i-th value

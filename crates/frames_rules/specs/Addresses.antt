@@ -4,10 +4,11 @@ use Prim.Native.Nat.{ℕ, zero, suc, _/_}
 use mathlib.Core.List.{List, [], _∷_}
 use lib.Dec.{ltb}
 use Rattle.lists.specs.Lists.{pick, spelled}
+use Rattle.lists.specs.Answers.{Answer}
 use Rattle.parity_rules.specs.Division.{shiftIn}
 use Rattle.frames_rules.specs.declared.answers.Address.{Address}
 use Rattle.frames_rules.specs.declared.answers.Address.the-variants.{Is, Nobody}
-use Rattle.frames_rules.specs.Answers.{Answer, addressSaid}
+use Rattle.frames_rules.specs.Answers.{addressSaid}
 
 -- the next n coefficients of the quotient, when the long division has r left: 1 where x^24 stands in r times x
 unfoldable pub quotientBits : ℕ → ℕ → List ℕ

@@ -1,6 +1,8 @@
 -- Numbers given back: what each case of an answer says in document 01's terms.
 use Prim.Native.Nat.{ℕ}
 use mathlib.Core.List.{List, [], _∷_}
+use Rattle.lists.specs.Checks.{Check}
+use Rattle.lists.specs.Answers.{Answer, done, refusal}
 use Rattle.frames_rules.specs.declared.answers.Built.{Built}
 use Rattle.frames_rules.specs.declared.answers.Built.the-variants as built
 use Rattle.frames_rules.specs.declared.answers.Up.{Up}
@@ -18,7 +20,7 @@ use Rattle.frames_rules.specs.declared.answers.Address.the-variants as a
 
 -- ---- a call that builds
 -- the number given back, and what the output buffer then holds
-pub record Outcome : Type 0 where
+pub record Building : Type 0 where
   pub number : ℕ
   pub output : List ℕ
 
@@ -29,31 +31,18 @@ numberOfBuilt built.Length = 1
 numberOfBuilt built.Range = 2
 
 -- what an answer and the buffer after the call say
-abbrev pub said : Built → List ℕ → Outcome
-said b out = record { number = numberOfBuilt b; output = out }
+abbrev pub builtSaid : Built → List ℕ → Building
+builtSaid b out = record { number = numberOfBuilt b; output = out }
 
 -- "0 means done": the buffer holds the frame
-abbrev pub holding : List ℕ → Outcome
+abbrev pub holding : List ℕ → Building
 holding frame = record { number = 0; output = frame }
 
 -- "a refusal returns its number alone and changes nothing"
-abbrev pub refused : ℕ → List ℕ → Outcome
-refused n out = record { number = n; output = out }
+abbrev pub notBuilt : List ℕ → Check → Building
+notBuilt out c = record { number = c .number; output = out }
 
 -- ---- a call that reads
--- the number given back, and the values beside it
-pub record Answer : Type 0 where
-  pub number : ℕ
-  pub values : List ℕ
-
--- "0 means done", with the values
-abbrev pub done : List ℕ → Answer
-done vs = record { number = 0; values = vs }
-
--- "a refusal returns its number alone"
-abbrev pub refusal : ℕ → Answer
-refusal n = record { number = n; values = [] }
-
 -- an interrogation: UF, its fields in the order of their bits, its remainder
 abbrev pub upSaid : Up → Answer
 upSaid (up.Selective uf pc rr di sd ma r) = done (uf ∷ pc ∷ rr ∷ di ∷ sd ∷ ma ∷ r ∷ [])

@@ -1,12 +1,12 @@
--- Building: the checks in their order, and the frame that is holding.
+-- Building: the checks in their order, and the frame that the buffer then holds.
 use Prim.Native.Nat.{ℕ}
-use mathlib.Core.Bool.{Bool, _&&_, _||_}
-use mathlib.Core.List.{List}
+use mathlib.Core.Bool.{Bool, _&&_, _||_, not}
+use mathlib.Core.List.{List, [], _∷_}
 use lib.Dec.{eqb, leb}
 use lib.ListN.{length}
-use Rattle.lists.specs.Lists.{pick}
+use Rattle.lists.specs.Checks.{Check, check, checked}
 use Rattle.parity_rules.specs.Overlays.{overlayOf}
-use Rattle.frames_rules.specs.Answers.{Outcome, holding, refused}
+use Rattle.frames_rules.specs.Answers.{Building, holding, notBuilt}
 use Rattle.frames_rules.specs.Bytes.{numberOfBytes}
 use Rattle.frames_rules.specs.Fields.{selectiveHead, allCallHead, replyHead, allCallReplyHead}
 use Rattle.frames_rules.specs.Formats.{longFormat, surveillance, lengthOf}
@@ -44,24 +44,26 @@ selective uf pc rr di sd ma address = framed (lengthOf uf) (selectiveHead uf pc 
 unfoldable pub allCall : ℕ → ℕ → ℕ → List ℕ
 allCall pr ic cl = framed 7 (allCallHead pr ic cl) 0 (overlayOf 0xFFFFFF)
 
--- UF is judged first, then the lengths of the output buffer and of MA, then all the ranges
-unfoldable pub building : ℕ → ℕ → ℕ → ℕ → ℕ → List ℕ → ℕ → List ℕ → Outcome
-building uf pc rr di sd ma address out =
-    pick (surveillance uf)
-    (pick (eqb (length out) (lengthOf uf) && eqb (length ma) 7)
-    (pick (selectiveRanged uf pc rr di sd (numberOfBytes ma) address)
-    (holding (selective uf pc rr di sd (numberOfBytes ma) address))
-    (refused 2 out))
-    (refused 1 out))
-    (refused 2 out)
+-- 2: UF is judged first; 1: the lengths of the output buffer and of MA; 2: all the ranges
+unfoldable pub buildingChecks : ℕ → ℕ → ℕ → ℕ → ℕ → List ℕ → ℕ → List ℕ → List Check
+buildingChecks uf pc rr di sd ma address out =
+    check 2 (not (surveillance uf))
+    ∷ check 1 (not (eqb (length out) (lengthOf uf) && eqb (length ma) 7))
+    ∷ check 2 (not (selectiveRanged uf pc rr di sd (numberOfBytes ma) address))
+    ∷ []
 
-unfoldable pub allCalling : ℕ → ℕ → ℕ → List ℕ → Outcome
-allCalling pr ic cl out =
-    pick (eqb (length out) 7)
-    (pick (allCallRanged pr ic cl)
-    (holding (allCall pr ic cl))
-    (refused 2 out))
-    (refused 1 out)
+unfoldable pub building : ℕ → ℕ → ℕ → ℕ → ℕ → List ℕ → ℕ → List ℕ → Building
+unfolding buildingChecks
+building uf pc rr di sd ma address out =
+    checked (buildingChecks uf pc rr di sd ma address out) (notBuilt out) (holding (selective uf pc rr di sd (numberOfBytes ma) address))
+
+-- 1: the output buffer; 2: the ranges
+unfoldable pub allCallingChecks : ℕ → ℕ → ℕ → List ℕ → List Check
+allCallingChecks pr ic cl out = check 1 (not (eqb (length out) 7)) ∷ check 2 (not (allCallRanged pr ic cl)) ∷ []
+
+unfoldable pub allCalling : ℕ → ℕ → ℕ → List ℕ → Building
+unfolding allCallingChecks
+allCalling pr ic cl out = checked (allCallingChecks pr ic cl out) (notBuilt out) (holding (allCall pr ic cl))
 
 -- ---- replies
 -- DF 4, 5, 20 or 21: "downlink overlay: the address"
@@ -72,20 +74,23 @@ aReply df fs dr um value mb address = framed (lengthOf df) (replyHead df fs dr u
 unfoldable pub anAllCallReply : ℕ → ℕ → ℕ → ℕ → List ℕ
 anAllCallReply ca address cl ic = framed 7 (allCallReplyHead ca address) 0 (codeNumber cl ic)
 
-unfoldable pub replying : ℕ → ℕ → ℕ → ℕ → ℕ → ℕ → ℕ → List ℕ → Outcome
-replying df fs dr um value mb address out =
-    pick (surveillance df)
-    (pick (eqb (length out) (lengthOf df))
-    (pick (replyRanged df fs dr um value mb address)
-    (holding (aReply df fs dr um value mb address))
-    (refused 2 out))
-    (refused 1 out))
-    (refused 2 out)
+-- 2: DF is judged first; 1: the output buffer; 2: all the ranges
+unfoldable pub replyingChecks : ℕ → ℕ → ℕ → ℕ → ℕ → ℕ → ℕ → List ℕ → List Check
+replyingChecks df fs dr um value mb address out =
+    check 2 (not (surveillance df))
+    ∷ check 1 (not (eqb (length out) (lengthOf df)))
+    ∷ check 2 (not (replyRanged df fs dr um value mb address))
+    ∷ []
 
-unfoldable pub allCallReplying : ℕ → ℕ → ℕ → ℕ → List ℕ → Outcome
-allCallReplying ca address cl ic out =
-    pick (eqb (length out) 7)
-    (pick (allCallReplyRanged ca address cl ic)
-    (holding (anAllCallReply ca address cl ic))
-    (refused 2 out))
-    (refused 1 out)
+unfoldable pub replying : ℕ → ℕ → ℕ → ℕ → ℕ → ℕ → ℕ → List ℕ → Building
+unfolding replyingChecks
+replying df fs dr um value mb address out =
+    checked (replyingChecks df fs dr um value mb address out) (notBuilt out) (holding (aReply df fs dr um value mb address))
+
+-- 1: the output buffer; 2: the ranges
+unfoldable pub allCallReplyingChecks : ℕ → ℕ → ℕ → ℕ → List ℕ → List Check
+allCallReplyingChecks ca address cl ic out = check 1 (not (eqb (length out) 7)) ∷ check 2 (not (allCallReplyRanged ca address cl ic)) ∷ []
+
+unfoldable pub allCallReplying : ℕ → ℕ → ℕ → ℕ → List ℕ → Building
+unfolding allCallReplyingChecks
+allCallReplying ca address cl ic out = checked (allCallReplyingChecks ca address cl ic out) (notBuilt out) (holding (anAllCallReply ca address cl ic))

@@ -1,13 +1,15 @@
 -- Codes: whose code a DF 11 carries, for a station.
 use Prim.Native.Nat.{ℕ}
 use mathlib.Core.Bool.{Bool, _&&_, not}
-use mathlib.Core.List.{List}
+use mathlib.Core.List.{List, [], _∷_}
 use lib.Dec.{eqb, leb}
 use lib.ListN.{length}
 use Rattle.lists.specs.Lists.{pick}
-use Rattle.parity_rules.specs.Messages.{bits, whole}
+use Rattle.lists.specs.Checks.{Check, check, checked}
+use Rattle.lists.specs.Answers.{Answer, done, refusedBy}
+use Rattle.parity_rules.specs.Messages.{bits, sevenOrFourteen}
 use Rattle.parity_rules.specs.Division.{remainderOf}
-use Rattle.frames_rules.specs.Answers.{Answer, done, refusal, own, matchingII, other}
+use Rattle.frames_rules.specs.Answers.{own, matchingII, other}
 use Rattle.frames_rules.specs.Reading.{formatOf}
 use Rattle.frames_rules.specs.Shared.{codeNumber, ofSI}
 
@@ -24,13 +26,14 @@ unfoldable pub whose : ℕ → ℕ → ℕ → ℕ → List ℕ
 whose remainder cl ic permit =
     pick (eqb remainder (codeNumber cl ic)) own (pick (matches remainder cl ic permit) matchingII other)
 
--- judged 1, then 2, then 14: not a DF 11 of 7 bytes
+-- 1: a message not of 7 or 14 bytes; 2: the station's numbers; 14: not a DF 11 of 7 bytes
+unfoldable pub codeOfChecks : List ℕ → ℕ → ℕ → ℕ → List Check
+codeOfChecks m cl ic permit =
+    check 1 (not (sevenOrFourteen (length m)))
+    ∷ check 2 (not (stationRanged cl ic permit))
+    ∷ check 14 (not (eqb (length m) 7 && eqb (formatOf m) 11))
+    ∷ []
+
 unfoldable pub codeOf : List ℕ → ℕ → ℕ → ℕ → Answer
-codeOf m cl ic permit =
-    pick (whole (length m))
-    (pick (stationRanged cl ic permit)
-    (pick (eqb (length m) 7 && eqb (formatOf m) 11)
-    (done (whose (remainderOf (bits m)) cl ic permit))
-    (refusal 14))
-    (refusal 2))
-    (refusal 1)
+unfolding codeOfChecks
+codeOf m cl ic permit = checked (codeOfChecks m cl ic permit) refusedBy (done (whose (remainderOf (bits m)) cl ic permit))

@@ -7,6 +7,7 @@ pub mod Shared
 pub mod Frames
 pub mod Building
 pub mod Reading
+pub mod Interrogations
 pub mod Codes
 pub mod Addresses
 pub mod Examples

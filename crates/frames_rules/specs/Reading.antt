@@ -1,29 +1,32 @@
 -- Reading: "a frame read alone gives its fields and its remainder".
 use Prim.Native.Nat.{ℕ}
 use mathlib.Core.List.{List, [], _∷_}
+use mathlib.Core.Bool.{not}
 use lib.Dec.{eqb}
 use lib.ListN.{length, take, drop}
 use Rattle.lists.specs.Lists.{pick}
-use Rattle.parity_rules.specs.Messages.{bits, whole}
+use Rattle.lists.specs.Checks.{Check, check, checked}
+use Rattle.lists.specs.Answers.{Answer, done, refusedBy}
+use Rattle.parity_rules.specs.Messages.{bits, sevenOrFourteen}
 use Rattle.parity_rules.specs.Division.{remainderOf}
-use Rattle.frames_rules.specs.Answers.{Answer, done, refusal}
-use Rattle.frames_rules.specs.Fields.{headOf, midOf, valueAt, atUF, atPC, atRR, atDI, atSD, atPR, atIC, atCL, atDF, atFS, atDR, atUM, atACorID, atCA, atAddress}
+use Rattle.frames_rules.specs.Fields.{headOf, midOf, valueAt, atUF, atPC, atRR, atDI, atSD, atPR, atIC, atCL, atDF, atFS, atDR, atUM, atACorID, atCA}
+use Rattle.frames_rules.specs.Fields.{atAddress}
 use Rattle.frames_rules.specs.Formats.{listed}
 
 -- the format stands at the same bits of an interrogation and of a reply
 abbrev pub formatOf : List ℕ → ℕ
 formatOf m = valueAt atUF (headOf m)
 
--- 1 unless 7 or 14 bytes; 14 for "a format not listed here or not of that length"; else the fields of format 11 or of the others
+-- 1: a message not of 7 or 14 bytes; 14: "a format not listed here or not of that length"
+unfoldable pub readChecks : List ℕ → List Check
+readChecks m = check 1 (not (sevenOrFourteen (length m))) ∷ check 14 (not (listed (formatOf m) (length m))) ∷ []
+
+-- the fields of format 11 or of the others
 unfoldable pub readAs : (ℕ → ℕ → Answer) → (ℕ → ℕ → ℕ → Answer) → List ℕ → Answer
+unfolding readChecks
 readAs eleven others m =
-    pick (whole (length m))
-    (pick (listed (formatOf m) (length m))
-    (pick (eqb (formatOf m) 11)
-    (eleven (headOf m) (remainderOf (bits m)))
-    (others (headOf m) (midOf m) (remainderOf (bits m))))
-    (refusal 14))
-    (refusal 1)
+    checked (readChecks m) refusedBy
+    (pick (eqb (formatOf m) 11) (eleven (headOf m) (remainderOf (bits m))) (others (headOf m) (midOf m) (remainderOf (bits m))))
 
 -- ---- interrogations
 -- the fields of UF 4, 5, 20 or 21, from bits 1 to 32, MA and the remainder

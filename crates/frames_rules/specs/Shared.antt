@@ -3,11 +3,12 @@ use Prim.Native.Nat.{ℕ, _+_, _-_, _*_}
 use mathlib.Core.Bool.{Bool, _&&_, _||_, not}
 use lib.Dec.{eqb, leb}
 use Rattle.lists.specs.Lists.{pick}
+use Rattle.lists.specs.Answers.{Answer}
 use Rattle.frames_rules.specs.declared.answers.Interrogator.{Interrogator}
 use Rattle.frames_rules.specs.declared.answers.Interrogator.the-variants.{II, SI, Nobody}
 use Rattle.frames_rules.specs.declared.answers.Draws.{Draws}
 use Rattle.frames_rules.specs.declared.answers.Draws.the-variants.{Format, Nothing}
-use Rattle.frames_rules.specs.Answers.{Answer, interrogatorSaid, drawsSaid}
+use Rattle.frames_rules.specs.Answers.{interrogatorSaid, drawsSaid}
 use Rattle.frames_rules.specs.Formats.{surveillance}
 
 -- ---- codes

@@ -3,12 +3,12 @@ use Prim.Native.Nat.{ℕ, _≤_, _<_}
 use native.Mathlib.Omega.{arith}
 use mathlib.Core.Path.{_≡_, refl, sym, ap, _∙_}
 use mathlib.Core.List.{List, [], _∷_, _++_}
-use mathlib.Core.Bool.{Bool, true, false, not, false≢true}
-use borrow.Author.Tests.{lt-ltb, le-ltb, le-leb, lt-leb, eq-eqb, ne-eqb, eqb-false, not-true}
+use mathlib.Core.Bool.{Bool, true, false, not, _&&_, false≢true}
+use borrow.Author.Tests.{lt-ltb, le-ltb, le-leb, lt-leb, eq-eqb, ne-eqb, eqb-false, not-true, not-false}
 use lib.Dec.{eqb}
-use Rattle.lists.specs.Lists.{pick}
+use Rattle.lists.specs.Lists.{pick, All}
 use Rattle.lists.specs.Checks.{Check, checked, given, lineOf, caseOf, from, unless, Before, None, numbered}
-use Rattle.lists.proofs.Tests.{and-true}
+use Rattle.lists.proofs.Tests.{and-true, and-no-left, and-no-right, and-yes}
 
 -- ---- any view of what a table comes to is the table with that view
 pub view : {A B : Type 0} (g : A → B) (cs : List Check) (refuse : Check → A) (done : A)
@@ -63,6 +63,46 @@ module _ {A : Type 0} (refuse : Check → A) (done : A) where
       go y false e (was-refused d m k g r) = was-refused d m k (rw e g) r
       go y false e (was-done k g r) = was-done (passed-on c cs e k) (rw e g) r
 
+-- where none of a table is the case, none of its parts is
+none-parts : (cs ds : List Check) → None (cs ++ ds) → None cs × None ds
+none-parts [] ds h = (tt, h)
+none-parts (c ∷ cs) ds h = let p = none-parts cs ds (h .1) in ((h .0, p .0), p .1)
+
+none-passed : (cs : List Check) → None cs → Passed cs
+none-passed [] h = nothing-left
+none-passed (c ∷ cs) h = passed-on c cs (h .0) (none-passed cs (h .1))
+
+pub passed-first : (cs ds : List Check) → Passed (cs ++ ds) → Passed cs
+passed-first cs ds p = none-passed cs (none-parts cs ds (p .none) .0)
+
+pub passed-last : (cs ds : List Check) → Passed (cs ++ ds) → Passed ds
+passed-last cs ds p = none-passed ds (none-parts cs ds (p .none) .1)
+
+-- ---- by the number given, where another function has worked it out
+-- 0: no line is the case
+zero-in : (cs : List Check) (r : ℕ) → CameTo cs (λ c. c .number) 0 r → r ≡ 0 → Passed cs
+zero-in cs r (was-refused c m k g e) z = absurd (m (sym e ∙ z))
+zero-in cs r (was-done k g e) z = k
+
+pub zero-passed : (cs : List Check) → numbered cs ≡ true → given cs ≡ 0 → Passed cs
+zero-passed cs h z = zero-in cs (given cs) (came-to (λ c. c .number) 0 cs h) z
+
+module _ {A : Type 0} (cs : List Check) (done : A) (h : numbered cs ≡ true) where
+  -- another number: refused by it
+  refused-in : (refuse : ℕ → A) (r : A) → CameTo cs (λ c. refuse (c .number)) done r → (given cs ≡ 0 → ⊥) → refuse (given cs) ≡ r
+  refused-in refuse r (was-refused c m k g e) n = ap refuse g ∙ sym e
+  refused-in refuse r (was-done k g e) n = absurd (n g)
+
+  pub number-refused : (refuse : ℕ → A) → (given cs ≡ 0 → ⊥) → refuse (given cs) ≡ checked cs (λ c. refuse (c .number)) done
+  number-refused refuse n = refused-in refuse (checked cs (λ c. refuse (c .number)) done) (came-to (λ c. refuse (c .number)) done cs h) n
+
+  done-in : (refuse : Check → A) (r : A) → CameTo cs refuse done r → given cs ≡ 0 → done ≡ r
+  done-in refuse r (was-refused c m k g e) z = absurd (m (sym g ∙ z))
+  done-in refuse r (was-done k g e) z = sym e
+
+  pub zero-done : (refuse : Check → A) → given cs ≡ 0 → done ≡ checked cs refuse done
+  zero-done refuse z = done-in refuse (checked cs refuse done) (came-to refuse done cs h) z
+
 -- ---- what stands after a table need only be right where each of its lines is not the case
 pub under : {A : Type 0} (cs : List Check) (refuse : Check → A) (x y : A) → (Passed cs → x ≡ y) → checked cs refuse x ≡ checked cs refuse y
 unfolding checked
@@ -73,6 +113,52 @@ under (c ∷ cs) refuse x y h = go (c .isCase) refl (λ k. under cs refuse x y k
         → pick b (refuse c) (checked cs refuse x) ≡ pick b (refuse c) (checked cs refuse y)
     go true e f = refl
     go false e f = f (λ k. h (passed-on c cs e k))
+
+-- ---- a number that is given is that of a line which is the case, and no line before it is
+-- no line has the number, and one line alone has it
+abbrev pub absent : ℕ → List Check → Bool
+absent n [] = true
+absent n (c ∷ cs) = not (eqb (c .number) n) && absent n cs
+
+abbrev pub once : ℕ → List Check → Bool
+once n [] = false
+once n (c ∷ cs) = pick (eqb (c .number) n) (absent n cs) (once n cs)
+
+module _ (n : ℕ) (z : n ≡ 0 → ⊥) where
+  never : (cs : List Check) → absent n cs ≡ true → given cs ≡ n → ⊥
+  unfolding checked
+  never [] a g = z (sym g)
+  never (c ∷ cs) a g =
+      let y = and-true (not (eqb (c .number) n)) (absent n cs) a in
+      go (c .isCase) (eqb-false (c .number) n (not-true (eqb (c .number) n) (y .0))) g (never cs (y .1))
+    where
+      go : (b : Bool) → (c .number ≡ n → ⊥) → pick b (c .number) (given cs) ≡ n → (given cs ≡ n → ⊥) → ⊥
+      go true m g f = m g
+      go false m g f = f g
+
+  pub gave : (cs : List Check) → once n cs ≡ true → given cs ≡ n → Before n cs × (caseOf n cs ≡ true)
+  unfolding checked
+  gave [] o g = absurd (false≢true o)
+  gave (c ∷ cs) o g = go (eqb (c .number) n) refl (c .isCase) refl o g (λ p q. gave cs p q)
+    where
+      go : (t : Bool) → eqb (c .number) n ≡ t → (b : Bool) → c .isCase ≡ b → pick t (absent n cs) (once n cs) ≡ true → pick b (c .number) (given cs) ≡ n
+          → (once n cs ≡ true → given cs ≡ n → Before n cs × (caseOf n cs ≡ true))
+          → unless t ((c .isCase ≡ false) × Before n cs) × (pick t c (lineOf n cs) .isCase ≡ true)
+      go true h true e o g f = (tt, e)
+      go true h false e o g f = absurd (never cs o g)
+      go false h true e o g f = absurd (eqb-false (c .number) n h g)
+      go false h false e o g f = let y = f o g in ((e, y .0), y .1)
+
+-- ---- what holds of the refusal by each line, and of what is done where none is the case, holds of what the table comes to
+pub whichever : {A : Type 0} (P : A → Type 0) (cs : List Check) (refuse : Check → A) (done : A)
+    → All (λ c. P (refuse c)) cs → (Passed cs → P done) → P (checked cs refuse done)
+unfolding All checked
+whichever P [] refuse done r d = d nothing-left
+whichever P (c ∷ cs) refuse done r d = go (c .isCase) refl (λ k. whichever P cs refuse done (r .1) k)
+  where
+    go : (b : Bool) → c .isCase ≡ b → ((Passed cs → P done) → P (checked cs refuse done)) → P (pick b (refuse c) (checked cs refuse done))
+    go true e f = r .0
+    go false e f = f (λ k. d (passed-on c cs e k))
 
 -- ---- the lines that are left at a place of the code: those before them are not the case
 pub data Left (cs : List Check) : List Check → Type 0 where
@@ -172,5 +258,21 @@ told-most e h = omega arith
 pub told-less : {r n k : ℕ} → r ≡ n → k < r → k < n
 told-less e h = omega arith
 
+-- ---- a test of several, from what is known of each
+pub is-off : (x : Bool) → x ≡ false → false ≡ x
+is-off x e = sym e
+
+pub told-off : {b x : Bool} → b ≡ x → not b ≡ true → x ≡ false
+told-off {b} e h = sym e ∙ not-true b h
+
+pub told-on : {b x : Bool} → b ≡ x → not b ≡ false → x ≡ true
+told-on {b} e h = sym e ∙ not-false b h
+
+pub the-last : (a b r : Bool) → a ≡ true → r ≡ b → r ≡ a && b
+the-last a b r e h = rw e h
+
 -- `search tests` finds a line's condition, true or false, in what is known at a place of the code
 pub ruleset tests = (told, told-not, not-on, not-off, told-most, told-less, lt-ltb, le-ltb, le-leb, lt-leb, eq-eqb, ne-eqb)
+
+-- `search joined` finds what a function answers that asks tests one after the other
+pub ruleset joined = (is-off, told-off, told-on, the-last, and-no-left, and-no-right, and-yes, lt-ltb, le-ltb, le-leb, lt-leb, eq-eqb, ne-eqb)

@@ -21,10 +21,12 @@ module _ {A B : Type 0} (f : A → B) where
   pub copied-none : (l : List A) (base : List B) → Copied l base 0 base
   copied-none l base = sym (over-none base)
 
-  pub copied-more : (l : List A) (base : List B) (i : ℕ) (xs : List B) (d : A) → i < length l → i < length base → Copied l base i xs → Copied l base (i + 1) (set xs i (f (getD l i d)))
+  pub copied-more : (l : List A) (base : List B) (i : ℕ) (xs : List B) (d : A) → i < length l → i < length base → Copied l base i xs
+      → Copied l base (i + 1) (set xs i (f (getD l i d)))
   copied-more l base i xs d b k e =
       let n : length (map f (take i l)) ≡ i = length-map (take i l) f ∙ length-take i l ∙ (omega arith) in
-      let s : map f (take (i + 1) l) ≡ map f (take i l) ++ (f (getD l i d) ∷ []) = ap (map f) (front-take (i + 1) l i d (omega arith)) ∙ map-snoc (take i l) (getD l i d) in
+      let s : map f (take (i + 1) l) ≡ map f (take i l) ++ (f (getD l i d) ∷ []) = ap (map f) (front-take (i + 1) l i d (omega arith)) ∙ map-snoc (take i l)
+      (getD l i d) in
       rw (e, s) (over-push (map f (take i l)) base (f (getD l i d)) i n k)
 
   pub copied-all : (l : List A) (base : List B) (i : ℕ) (xs : List B) → length l ≤ i → length base ≤ length l → Copied l base i xs → xs ≡ map f l

@@ -27,7 +27,8 @@ module _ {A : Type 0} (p : A → Bool) where
       go false = refl
 
 -- a test that the images pass exactly if what they are of passes another
-pub filter-map : {A B : Type 0} (p : B → Bool) (q : A → Bool) (f : A → B) (v : List A) → All (λ (x : A). p (f x) ≡ q x) v → filter p (map f v) ≡ map f (filter q v)
+pub filter-map : {A B : Type 0} (p : B → Bool) (q : A → Bool) (f : A → B) (v : List A) → All (λ (x : A). p (f x) ≡ q x) v
+    → filter p (map f v) ≡ map f (filter q v)
 unfolding filter All
 filter-map p q f [] h = refl
 filter-map {A} {B} p q f (x ∷ v) h = ap₂ (λ (b : Bool) (l : List B). pick b (f x ∷ l) l) (h .0) (filter-map p q f v (h .1)) ∙ go (q x)

@@ -36,7 +36,8 @@ module _ {A : Type 0} where
   unfolding over
   over-read v l i d h =
       let e : length v + (i - length v) ≡ i = omega arith in
-      let s : getD (v ++ drop (length v) l) (length v + (i - length v)) d ≡ getD l (length v + (i - length v)) d = getD-append-add v (drop (length v) l) (i - length v) d ∙ getD-drop (length v) l (i - length v) d in
+      let s : getD (v ++ drop (length v) l) (length v + (i - length v)) d ≡ getD l (length v + (i - length v)) d = getD-append-add v (drop (length v) l)
+      (i - length v) d ∙ getD-drop (length v) l (i - length v) d in
       rw e at s
 
   -- one more is written
@@ -54,7 +55,8 @@ module _ {A : Type 0} where
   unfolding over
   over-over v w l h =
       let e : length v + (length w - length v) ≡ length w = omega arith in
-      let s : drop (length v + (length w - length v)) (v ++ drop (length v) l) ≡ drop (length v + (length w - length v)) l = drop-append-add v (drop (length v) l) (length w - length v) ∙ drop-drop (length w - length v) (length v) l in
+      let s : drop (length v + (length w - length v)) (v ++ drop (length v) l) ≡ drop (length v + (length w - length v)) l = drop-append-add v
+      (drop (length v) l) (length w - length v) ∙ drop-drop (length w - length v) (length v) l in
       ap (λ (t : List A). w ++ t) (rw e at s)
 
   -- one more after the first m slots

@@ -26,3 +26,16 @@ and-yes a b p q = rw (p, q)
 pub or-true : (a b : Bool) → a || b ≡ true → (a ≡ true) ⊎ (b ≡ true)
 or-true true b e = inl refl
 or-true false b e = inr e
+
+pub or-yes-left : (a b : Bool) → a ≡ true → a || b ≡ true
+or-yes-left a b e = rw e
+
+pub or-no : (a b : Bool) → a ≡ false → b ≡ false → a || b ≡ false
+or-no a b p q = rw (p, q)
+
+-- what a last test gives, where those before it are passed
+pub and-rest : (a b : Bool) {x : Bool} → a ≡ true → x ≡ b → x ≡ a && b
+and-rest a b e h = rw e h
+
+pub or-rest : (a b : Bool) {x : Bool} → a ≡ false → x ≡ b → x ≡ a || b
+or-rest a b e h = rw e h

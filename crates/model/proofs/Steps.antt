@@ -6,8 +6,8 @@ use mathlib.Core.Bool.{Bool, true, false}
 use mathlib.Core.List.{List, [], _∷_}
 use borrow.Author.Tests.{eq-eqb, ne-eqb, le-leb, lt-leb}
 use lib.ListN.{length, getD, replicate, List·getD-eq-default}
-use Rattle.parity_rules.specs.Messages.{whole}
-use Rattle.frames_rules.specs.Answers.{Answer, upSaid}
+use Rattle.lists.proofs.Checks.{tests}
+use Rattle.frames_rules.specs.Answers.{upSaid}
 use Rattle.frames_rules.specs.Building.{replying, allCallReplying}
 use Rattle.frames_rules.specs.Bytes.{numberOfBytes}
 use Rattle.frames_rules.specs.Shared.{codeFor}
@@ -15,7 +15,8 @@ use Rattle.frames_rules.specs.Formats.{lengthOf}
 use Rattle.frames_rules.specs.Shared.{drawn}
 use Rattle.frames_rules.specs.Reading.{readUp}
 use Rattle.frames_rules.specs.declared.answers.Up.{Up}
-use Rattle.frames_rules.specs.declared.answers.Up.the-variants as up
+use Rattle.frames_rules.specs.Interrogations.{upOf}
+use Rattle.frames_rules.proofs.Interrogations.{up-is}
 use Rattle.frames_rules.specs.declared.answers.Interrogator.{Interrogator}
 use Rattle.frames_rules.specs.declared.answers.Draws.the-variants.{Format, Nothing}
 use Rattle.model_rules.specs.declared.state.Timer.{Timer}
@@ -27,17 +28,18 @@ use Rattle.model_rules.specs.declared.state.Transponder.{Transponder}
 use Rattle.model_rules.specs.declared.state.Sent.{Sent}
 use Rattle.model_rules.specs.declared.state.Went.{Went}
 use Rattle.model_rules.specs.declared.state.Took.{Took}
-use Rattle.model_rules.specs.State.{placeOf, idle, waiting, waits, messagesWith, messagesAfter, keeping, withMessages}
+use Rattle.model_rules.specs.State.{placeOf, idle, waits, messagesAfter, withTime, withTimers, withHolder, withMessages}
 use Rattle.model_rules.specs.Lapse.{timersAfter, holderAfter, lapse}
 use Rattle.model_rules.specs.Lockout.{iis, locks, lockedTo, lockout}
 use Rattle.model_rules.specs.CommB.{asksToHold, nobodyElse, reserve, closes, closeout}
 use Rattle.model_rules.specs.Replies.{silence, sending, drOf, umOf, mbOf, valueOf, respond, answersCode, answers, answerAllCall}
-use Rattle.model_rules.specs.Calls.{queuing, steps, interrogated, laidOver, heardSelective, heardAllCall, heard, refusing, taking}
+use Rattle.model_rules.specs.Calls.{steps, went, interrogated, timeAlone, laidOver, selectiveComes, allCallComes, comes, isTaken}
 
 -- ---- time
-pub lapse-is : (u t : Transponder) (now : ℕ) (x : Timers) (h : Holder) → x ≡ timersAfter now (t .timers) → h ≡ holderAfter now (t .holder) → u ≡ keeping t now x h (t .messages) → u ≡ lapse now t
+pub lapse-is : (t u : Transponder) (now : ℕ) (x : Timers) (h : Holder) → x ≡ timersAfter now (t .timers) → h ≡ holderAfter now (t .holder) → u ≡ withHolder h t
+    → withTimers x (withTime now u) ≡ lapse now t
 unfolding lapse
-lapse-is u t now x h p q e = e ∙ (rw (p, q))
+lapse-is t u now x h p q e = rw (e, p, q)
 
 -- ---- a lock that is read
 getD-any : {A : Type 0} (l : List A) (k : ℕ) (d e : A) → k < length l → getD l k d ≡ getD l k e
@@ -70,7 +72,7 @@ module _ (di sd : ℕ) (t : Transponder) where
       unfolding reserve
       another-holds n = rw (a, w, ← i, n)
 
-      pub reserved : (u : Transponder) → nobodyElse ii (t .holder) ≡ true → u ≡ keeping t (t .time) (t .timers) (Held ii (t .time)) (t .messages) → u ≡ reserve di sd t
+      pub reserved : (u : Transponder) → nobodyElse ii (t .holder) ≡ true → u ≡ withHolder (Held ii (t .time)) t → u ≡ reserve di sd t
       unfolding reserve
       reserved u n e = rw (a, w, ← i, n) e
 
@@ -80,9 +82,10 @@ module _ (pc di sd : ℕ) (t : Transponder) where
   unfolding closeout
   not-closed h = rw h
 
-  pub closed : (u : Transponder) (m : Messages) → closes pc di sd (t .holder) ≡ true → m ≡ messagesAfter (t .messages) → u ≡ keeping t (t .time) (t .timers) Nobody m → u ≡ closeout pc di sd t
+  pub closed : (u : Transponder) (m : Messages) → closes pc di sd (t .holder) ≡ true → m ≡ messagesAfter (t .messages) → u ≡ withHolder Nobody t
+      → withMessages m u ≡ closeout pc di sd t
   unfolding closeout
-  closed u m h q e = rw h (e ∙ (rw q))
+  closed u m h q e = rw (h, e, q)
 
 -- ---- replies
 pub responded : (s : Sent) (t : Transponder) (uf rr di sd df dr um value mb : ℕ) → drawn uf rr ≡ Format df → dr ≡ drOf (t .messages) → um ≡ umOf di sd (t .holder) → value ≡ valueOf uf t → mb ≡ mbOf rr di sd (t .messages)
@@ -104,73 +107,43 @@ module _ (s : Sent) (t : Transponder) (pr ic cl draw : ℕ) (x : Interrogator) (
   answered h e = let z : answersCode pr draw t (codeFor cl ic) ≡ true = ap (answersCode pr draw t) (sym p) ∙ sym q ∙ h in rw z e
 
 -- ---- a frame
-pub interrogated-is : (t a b u : Transponder) (s : Sent) (uf pc rr di sd : ℕ) → a ≡ lockout pc di sd t → b ≡ reserve di sd a → u ≡ closeout pc di sd b → s ≡ respond uf rr di sd u
-    → record { transponder = u; sent = s } ≡ interrogated uf pc rr di sd t
+pub interrogated-is : (w : Went) (t a b u : Transponder) (s : Sent) (uf pc rr di sd : ℕ) → a ≡ lockout pc di sd t → b ≡ reserve di sd a
+    → u ≡ closeout pc di sd b → s ≡ respond uf rr di sd u → w ≡ went u s → w ≡ interrogated uf pc rr di sd t
 unfolding interrogated steps
-interrogated-is t a b u s uf pc rr di sd p q r e = rw (e, r, q, p)
+interrogated-is w t a b u s uf pc rr di sd p q r e h = h ∙ (rw (e, r, q, p))
 
-module _ (t : Transponder) (uf pc rr di sd r : ℕ) where
-  pub not-for-it : (s : Sent) → laidOver (t .address) r ≡ false → s ≡ silence → record { transponder = t; sent = s } ≡ heardSelective uf pc rr di sd r t
-  unfolding heardSelective
-  not-for-it s h e = rw (h, e)
+module _ (t : Transponder) (uf pc rr di sd r : ℕ) (w : Went) where
+  pub not-for-it : laidOver (t .address) r ≡ false → w ≡ timeAlone t → w ≡ selectiveComes uf pc rr di sd r t
+  unfolding selectiveComes
+  not-for-it h e = rw h e
 
-  pub for-it : (w : Went) → laidOver (t .address) r ≡ true → w ≡ interrogated uf pc rr di sd t → w ≡ heardSelective uf pc rr di sd r t
-  unfolding heardSelective
-  for-it w h e = rw h e
+  pub for-it : laidOver (t .address) r ≡ true → w ≡ interrogated uf pc rr di sd t → w ≡ selectiveComes uf pc rr di sd r t
+  unfolding selectiveComes
+  for-it h e = rw h e
 
-module _ (t : Transponder) (pr ic cl r draw : ℕ) (s : Sent) where
-  pub not-for-all : laidOver 0xFFFFFF r ≡ false → s ≡ silence → record { transponder = t; sent = s } ≡ heardAllCall pr ic cl r draw t
-  unfolding heardAllCall
-  not-for-all h e = rw (h, e)
+module _ (t : Transponder) (pr ic cl r draw : ℕ) (w : Went) where
+  pub not-for-all : laidOver 0xFFFFFF r ≡ false → w ≡ timeAlone t → w ≡ allCallComes pr ic cl r draw t
+  unfolding allCallComes
+  not-for-all h e = rw h e
 
-  pub for-all : laidOver 0xFFFFFF r ≡ true → s ≡ answerAllCall pr ic cl draw t → record { transponder = t; sent = s } ≡ heardAllCall pr ic cl r draw t
-  unfolding heardAllCall
-  for-all h e = rw (h, e)
+  pub for-all : (s : Sent) → laidOver 0xFFFFFF r ≡ true → s ≡ answerAllCall pr ic cl draw t → w ≡ went t s → w ≡ allCallComes pr ic cl r draw t
+  unfolding allCallComes
+  for-all s h e q = rw (h, ← e) q
 
-module _ (x : Up) (a : Answer) (z : upSaid x ≡ a) (draw : ℕ) (t : Transponder) where
-  pub hears-selective : (w : Went) (uf pc rr di sd ma r : ℕ) → x ≡ up.Selective uf pc rr di sd ma r → w ≡ heardSelective uf pc rr di sd r t → w ≡ heard draw t (a .values)
-  hears-selective w uf pc rr di sd ma r e h = rw (← z, e) h
+-- what was read is what the frame is
+module _ (f : List ℕ) (x : Up) (z : upSaid x ≡ readUp f) (draw : ℕ) (t : Transponder) where
+  pub comes-as : (w : Went) (y : Up) → x ≡ y → w ≡ comes draw t y → w ≡ comes draw t (upOf f)
+  comes-as w y e h = h ∙ ap (comes draw t) (sym e ∙ up-is f x z)
 
-  pub hears-all-call : (w : Went) (pr ic cl r : ℕ) → x ≡ up.AllCall pr ic cl r → w ≡ heardAllCall pr ic cl r draw t → w ≡ heard draw t (a .values)
-  hears-all-call w pr ic cl r e h = rw (← z, e) h
+pub took-is : (r : Took) (w : Went) (u t : Transponder) (time draw : ℕ) (x : Up) → u ≡ lapse time t → w ≡ comes draw u x → r ≡ isTaken w
+    → r ≡ isTaken (comes draw (lapse time t) x)
+took-is r w u t time draw x p q e = e ∙ ap isTaken (q ∙ ap (λ (v : Transponder). comes draw v x) p)
 
-  pub hears-length : (s : Sent) → x ≡ up.Length → s ≡ silence → record { transponder = t; sent = s } ≡ heard draw t (a .values)
-  hears-length s e h = rw (← z, e, h)
+-- ---- a line on how many wait, from a count of them
+pub told-least : {r n k : ℕ} → r ≡ n → k ≤ r → k ≤ n
+told-least e h = omega arith
 
-  pub hears-format : (s : Sent) → x ≡ up.Format → s ≡ silence → record { transponder = t; sent = s } ≡ heard draw t (a .values)
-  hears-format s e h = rw (← z, e, h)
+pub told-below : {r n k : ℕ} → r ≡ n → r < k → n < k
+told-below e h = omega arith
 
--- ---- the calls
-module _ (t : Transponder) (m : List ℕ) where
-  pub queue-length : (length m ≡ 7 → ⊥) → record { number = 1; transponder = t } ≡ queuing t m
-  unfolding queuing
-  queue-length n = rw (ne-eqb (length m) 7 n)
-
-  module _ (n : length m ≡ 7) where
-    pub queue-full : 8 ≤ length (waiting (t .messages)) → record { number = 6; transponder = t } ≡ queuing t m
-    unfolding queuing
-    queue-full h = rw (eq-eqb (length m) 7 n, le-leb 8 (length (waiting (t .messages))) h)
-
-    pub queued : (v : ℕ) (x : Messages) → length (waiting (t .messages)) < 8 → v ≡ numberOfBytes m → x ≡ messagesWith v (t .messages) → record { number = 0; transponder = withMessages x t } ≡ queuing t m
-    unfolding queuing
-    queued v x h p q = rw (eq-eqb (length m) 7 n, lt-leb 8 (length (waiting (t .messages))) h, q, p)
-
-module _ (t : Transponder) (time draw : ℕ) (f : List ℕ) (r : Took) where
-  pub take-length : whole (length f) ≡ false → r ≡ refusing 1 t → r ≡ taking t time draw f
-  unfolding taking
-  take-length h e = rw h e
-
-  module _ (h : whole (length f) ≡ true) where
-    pub take-range : 15 < draw → r ≡ refusing 2 t → r ≡ taking t time draw f
-    unfolding taking
-    take-range d e = rw (h, lt-leb draw 15 d) e
-
-    module _ (d : draw ≤ 15) where
-      pub take-time : time < t .time → r ≡ refusing 15 t → r ≡ taking t time draw f
-      unfolding taking
-      take-time p e = rw (h, le-leb draw 15 d, lt-leb (t .time) time p) e
-
-pub took : (t u : Transponder) (time draw : ℕ) (f : List ℕ) (w : Went) → whole (length f) ≡ true → draw ≤ 15 → t .time ≤ time → u ≡ lapse time t → w ≡ heard draw u (readUp f .values)
-    → record { number = 0; transponder = w .transponder; length = w .sent .length; reply = w .sent .bytes } ≡ taking t time draw f
-unfolding taking
-took t u time draw f w h d p q e = rw (h, le-leb draw 15 d, le-leb (t .time) time p, e, q)
+pub ruleset counted = (tests, told-least, told-below)

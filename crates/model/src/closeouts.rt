@@ -1,9 +1,9 @@
 // The closeout of the first message.
 ghost use mathlib.Core.Path.{_≡_};
 ghost use Rattle.model_rules.specs.CommB.{closesFor, closes, closeout};
-use crate::keeping::keeping;
 use crate::lockouts::iis;
 use crate::messages::drop_first;
+use crate::setters::with_holder;
 use model_rules::Holder;
 use model_rules::Transponder;
 
@@ -38,7 +38,7 @@ pub(crate) fn closeout(pc: u8, di: u8, sd: u16, t: Transponder) -> Transponder
     if !closes(pc, di, sd, h) {
         return t;
     }
-    let holder = Holder::Nobody;
-    let messages = drop_first(t.messages);
-    keeping(t, t.time, t.timers, holder, messages)
+    let mut u = with_holder(Holder::Nobody, t);
+    u.messages = drop_first(t.messages);
+    u
 }

@@ -1,20 +1,21 @@
 // A frame is taken at a time, with a draw.
+ghost use mathlib.Core.Bool.{true};
 ghost use mathlib.Core.Path.{_≡_};
-ghost use Rattle.parity_rules.specs.Messages.{whole};
-ghost use Rattle.frames_rules.specs.Reading.{readUp};
-ghost use Rattle.model_rules.specs.Calls.{heard, refusing, taking};
+ghost use Rattle.lists.specs.Checks.{check};
+ghost use Rattle.frames_rules.specs.Interrogations.{upOf};
+ghost use Rattle.model_rules.specs.Calls.{comes, notTaken, isTaken, taking};
 use crate::lapses::lapse;
-use crate::selective::heard_all_call;
-use crate::selective::heard_selective;
-use crate::sending::silence;
+use crate::selective::all_call_comes;
+use crate::selective::selective_comes;
+use crate::sending::time_alone;
 use frames::Up;
 use model_rules::Took;
 use model_rules::Transponder;
 use model_rules::Went;
 
-// What a frame does once time has lapsed.
-fn hear(draw: u32, t: Transponder, frame: &[u8]) -> Went
-    ensures { λ r. ⌜ r ≡ heard draw t (readUp (now (frame .entry)) .values) ⌝ }
+// A frame comes once time has lapsed.
+fn comes(draw: u32, t: Transponder, frame: &[u8]) -> Went
+    ensures { λ r. ⌜ r ≡ comes draw t (upOf (now (frame .entry))) ⌝ }
 {
     match frames::read_up(frame) {
         Up::Selective {
@@ -25,37 +26,21 @@ fn hear(draw: u32, t: Transponder, frame: &[u8]) -> Went
             sd,
             ma: _,
             remainder,
-        } => heard_selective(uf, pc, rr, di, sd, remainder, t),
+        } => selective_comes(uf, pc, rr, di, sd, remainder, t),
         Up::AllCall {
             pr,
             ic,
             cl,
             remainder,
-        } => heard_all_call(pr, ic, cl, remainder, draw, t),
-        Up::Length => Went {
-            transponder: t,
-            sent: silence(),
-        },
-        Up::Format => Went {
-            transponder: t,
-            sent: silence(),
-        },
+        } => all_call_comes(pr, ic, cl, remainder, draw, t),
+        Up::Length => time_alone(t),
+        Up::Format => time_alone(t),
     }
-}
-
-// Whether a number of bytes is that of a frame.
-fn whole(n: usize) -> bool
-    ensures { λ r. ⌜ r ≡ whole n ⌝ }
-{
-    if n == 7 {
-        return true;
-    }
-    n == 14
 }
 
 // A refusal: nothing changes.
-fn refusing(number: u8, t: Transponder) -> Took
-    ensures { λ r. ⌜ r ≡ refusing number t ⌝ }
+fn not_taken(number: u8, t: Transponder) -> Took
+    ensures { λ r. ⌜ r ≡ notTaken t (check number true) ⌝ }
 {
     Took {
         number,
@@ -65,20 +50,10 @@ fn refusing(number: u8, t: Transponder) -> Took
     }
 }
 
-// Takes a frame.
-pub fn take(t: Transponder, time: u32, draw: u32, frame: &[u8]) -> Took
-    ensures { λ r. ⌜ r ≡ taking t time draw (now (frame .entry)) ⌝ }
+// The transponder after a frame, and what it sends.
+fn is_taken(w: Went) -> Took
+    ensures { λ r. ⌜ r ≡ isTaken w ⌝ }
 {
-    if !whole(frame.len()) {
-        return refusing(1, t);
-    }
-    if 15 < draw {
-        return refusing(2, t);
-    }
-    if time < t.time {
-        return refusing(15, t);
-    }
-    let w = hear(draw, lapse(time, t), frame);
     let transponder = w.transponder;
     let sent = w.sent;
     let reply = sent.bytes;
@@ -88,4 +63,20 @@ pub fn take(t: Transponder, time: u32, draw: u32, frame: &[u8]) -> Took
         length: sent.length,
         reply,
     }
+}
+
+// Takes a frame.
+pub fn take(t: Transponder, time: u32, draw: u32, frame: &[u8]) -> Took
+    ensures { λ r. ⌜ r ≡ taking t time draw (now (frame .entry)) ⌝ }
+{
+    if !parity::seven_or_fourteen(frame.len()) {
+        return not_taken(1, t);
+    }
+    if 15 < draw {
+        return not_taken(2, t);
+    }
+    if time < t.time {
+        return not_taken(15, t);
+    }
+    is_taken(comes(draw, lapse(time, t), frame))
 }

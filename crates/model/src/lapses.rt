@@ -1,7 +1,7 @@
 // Time lapses: timers and the reservation fall away, and leave no trace.
 ghost use mathlib.Core.Path.{_≡_};
 ghost use Rattle.model_rules.specs.Lapse.{isOver, timerAfter, timersAfter, holderAfter, lapse};
-use crate::keeping::keeping;
+use crate::setters::with_holder;
 use model_rules::Holder;
 use model_rules::Lock;
 use model_rules::Timer;
@@ -72,6 +72,8 @@ pub(crate) fn lapse(now: u32, t: Transponder) -> Transponder
 {
     let h = t.holder;
     let timers = timers_after(now, t.timers);
-    let holder = holder_after(now, h);
-    keeping(t, now, timers, holder, t.messages)
+    let mut u = with_holder(holder_after(now, h), t);
+    u.time = now;
+    u.timers = timers;
+    u
 }

@@ -2,7 +2,6 @@
 mod all_calls;
 mod closeouts;
 mod frames_taken;
-mod keeping;
 mod lapses;
 mod lockouts;
 mod making;
@@ -11,6 +10,7 @@ mod reservations;
 mod responses;
 mod selective;
 mod sending;
+mod setters;
 mod timers;
 
 pub use frames_taken::take;

@@ -1,10 +1,11 @@
 // The messages that wait: how many, the first, one more, one less; and the call that queues one.
+ghost use mathlib.Core.Bool.{true};
 ghost use mathlib.Core.Path.{_≡_};
 ghost use Prim.Native.Nat.{_<_, _≤_};
 ghost use lib.ListN.{length};
-ghost use Rattle.frames_rules.specs.Bytes.{numberOfBytes};
+ghost use Rattle.lists.specs.Checks.{check};
 ghost use Rattle.model_rules.specs.State.{waiting, waits, firstOf, messagesWith, messagesAfter};
-ghost use Rattle.model_rules.specs.Calls.{queuing};
+ghost use Rattle.model_rules.specs.Calls.{notQueued, queuing};
 use model_rules::Messages;
 use model_rules::Queued;
 use model_rules::Transponder;
@@ -63,18 +64,14 @@ pub(crate) fn drop_first(m: Messages) -> Messages
     }
 }
 
-// The number that seven bytes are.
-fn seven_bytes(s: &[u8]) -> u64
-    requires { ⌜ length (now s) ≡ 7 ⌝ }
-    ensures { λ r. ⌜ r ≡ numberOfBytes (now (s .entry)) ⌝ }
+// A refusal: nothing changes.
+fn not_queued(number: u8, t: Transponder) -> Queued
+    ensures { λ r. ⌜ r ≡ notQueued t (check number true) ⌝ }
 {
-    let mut r: u64 = 0;
-    let mut i: usize = 0;
-    while i < 7 {
-        r = r * 256 + s[i] as u64;
-        i += 1;
+    Queued {
+        number,
+        transponder: t,
     }
-    r
 }
 
 // Queues a message.
@@ -82,20 +79,14 @@ pub fn queue(t: Transponder, message: &[u8]) -> Queued
     ensures { λ r. ⌜ r ≡ queuing t (now (message .entry)) ⌝ }
 {
     if message.len() != 7 {
-        return Queued {
-            number: 1,
-            transponder: t,
-        };
+        return not_queued(1, t);
     }
     let m = t.messages;
     if 8 <= count(m) {
-        return Queued {
-            number: 6,
-            transponder: t,
-        };
+        return not_queued(6, t);
     }
     let mut u = t;
-    u.messages = push(m, seven_bytes(message));
+    u.messages = push(m, frames::number_of(message));
     Queued {
         number: 0,
         transponder: u,

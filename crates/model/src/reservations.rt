@@ -1,9 +1,9 @@
 // The reservation of the first message.
 ghost use mathlib.Core.Path.{_≡_};
 ghost use Rattle.model_rules.specs.CommB.{asksToHold, nobodyElse, reserve};
-use crate::keeping::keeping;
 use crate::lockouts::iis;
 use crate::messages::waits;
+use crate::setters::with_holder;
 use model_rules::Holder;
 use model_rules::Transponder;
 
@@ -45,6 +45,5 @@ pub(crate) fn reserve(di: u8, sd: u16, t: Transponder) -> Transponder
     if !nobody_else(ii, h) {
         return t;
     }
-    let holder = Holder::Held { ii, since: t.time };
-    keeping(t, t.time, t.timers, holder, t.messages)
+    with_holder(Holder::Held { ii, since: t.time }, t)
 }

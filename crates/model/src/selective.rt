@@ -1,12 +1,13 @@
 // Who a frame is for, and the steps of a selective interrogation.
 ghost use mathlib.Core.Path.{_≡_};
-ghost use Rattle.model_rules.specs.Calls.{laidOver, interrogated, heardSelective, heardAllCall};
+ghost use Rattle.model_rules.specs.Calls.{laidOver, interrogated, selectiveComes, allCallComes};
 use crate::all_calls::answer_all_call;
 use crate::closeouts::closeout;
 use crate::lockouts::lockout;
 use crate::reservations::reserve;
 use crate::responses::respond;
-use crate::sending::silence;
+use crate::sending::time_alone;
+use crate::sending::went;
 use model_rules::Transponder;
 use model_rules::Went;
 use parity::Reckoned;
@@ -29,15 +30,11 @@ fn interrogated(uf: u8, pc: u8, rr: u8, di: u8, sd: u16, t: Transponder) -> Went
     let a = lockout(pc, di, sd, t);
     let b = reserve(di, sd, a);
     let u = closeout(pc, di, sd, b);
-    let sent = respond(uf, rr, di, sd, u);
-    Went {
-        transponder: u,
-        sent,
-    }
+    went(u, respond(uf, rr, di, sd, u))
 }
 
 // UF 4, 5, 20 or 21.
-pub(crate) fn heard_selective(
+pub(crate) fn selective_comes(
     uf: u8,
     pc: u8,
     rr: u8,
@@ -46,19 +43,16 @@ pub(crate) fn heard_selective(
     remainder: u32,
     t: Transponder,
 ) -> Went
-    ensures { λ r. ⌜ r ≡ heardSelective uf pc rr di sd remainder t ⌝ }
+    ensures { λ r. ⌜ r ≡ selectiveComes uf pc rr di sd remainder t ⌝ }
 {
     if !laid_over(t.address, remainder) {
-        return Went {
-            transponder: t,
-            sent: silence(),
-        };
+        return time_alone(t);
     }
     interrogated(uf, pc, rr, di, sd, t)
 }
 
 // UF 11.
-pub(crate) fn heard_all_call(
+pub(crate) fn all_call_comes(
     pr: u8,
     ic: u8,
     cl: u8,
@@ -66,17 +60,10 @@ pub(crate) fn heard_all_call(
     draw: u32,
     t: Transponder,
 ) -> Went
-    ensures { λ r. ⌜ r ≡ heardAllCall pr ic cl remainder draw t ⌝ }
+    ensures { λ r. ⌜ r ≡ allCallComes pr ic cl remainder draw t ⌝ }
 {
     if !laid_over(0xFF_FFFF, remainder) {
-        return Went {
-            transponder: t,
-            sent: silence(),
-        };
+        return time_alone(t);
     }
-    let sent = answer_all_call(pr, ic, cl, draw, t);
-    Went {
-        transponder: t,
-        sent,
-    }
+    went(t, answer_all_call(pr, ic, cl, draw, t))
 }

@@ -4,8 +4,11 @@ ghost use lib.ListN.{replicate};
 ghost use Rattle.frames_rules.specs.Building.{replying, allCallReplying};
 ghost use Rattle.frames_rules.specs.Formats.{lengthOf};
 ghost use Rattle.model_rules.specs.Replies.{silence, sentBytes, sending};
+ghost use Rattle.model_rules.specs.Calls.{went, timeAlone};
 use frames::Built;
 use model_rules::Sent;
+use model_rules::Transponder;
+use model_rules::Went;
 
 // No reply.
 pub(crate) fn silence() -> Sent
@@ -15,6 +18,23 @@ pub(crate) fn silence() -> Sent
         length: 0,
         bytes: [0; 14],
     }
+}
+
+// The transponder after a frame, and what it sends.
+pub(crate) fn went(t: Transponder, sent: Sent) -> Went
+    ensures { λ r. ⌜ r ≡ went t sent ⌝ }
+{
+    Went {
+        transponder: t,
+        sent,
+    }
+}
+
+// What only moves time.
+pub(crate) fn time_alone(t: Transponder) -> Went
+    ensures { λ r. ⌜ r ≡ timeAlone t ⌝ }
+{
+    went(t, silence())
 }
 
 // Seven bytes at the front of 14.

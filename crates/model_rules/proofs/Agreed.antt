@@ -9,14 +9,16 @@ use Rattle.parity_rules.specs.Overlays.{lowBits, times, overlayOf}
 use Rattle.frames_rules.specs.Building as frames
 use Rattle.frames_rules.specs.Fields.{headOf, midOf, selectiveHead, allCallHead, replyHead, allCallReplyHead}
 use Rattle.frames_rules.specs.Frames.{front, sealed}
-use Rattle.frames_rules.specs.Reading.{readAs, selectiveRead, allCallRead, surveillanceRead}
+use Rattle.frames_rules.specs.Reading.{readAs, surveillanceRead}
+use Rattle.frames_rules.specs.Interrogations.{upOf}
 use Rattle.frames_rules.specs.Shared.{codeFor, drawn}
 use Rattle.model_rules.specs.State.{started, messagesWith, messagesAfter}
 use Rattle.model_rules.specs.Lapse.{timerAfter, timersAfter, lapse}
 use Rattle.model_rules.specs.Lockout.{startedByLOS, startedByLSS, commandOfSD, commanded, lockout, lockedTo}
 use Rattle.model_rules.specs.CommB.{reserve, closeout}
 use Rattle.model_rules.specs.Replies.{sending, respond, drawsBelow, answers, answerAllCall}
-use Rattle.model_rules.specs.Calls.{newborn, makeRanged, making, queuing, steps, interrogated, laidOver, heardSelective, heardAllCall, taking}
+use Rattle.model_rules.specs.Calls.{newborn, makeRanged, making, queuing, steps, interrogated, laidOver, selectiveComes, allCallComes, comes, taking}
+use Rattle.model_rules.specs.Numbers.{checks}
 use Rattle.model_rules.specs.History.{after}
 use Rattle.model_rules.specs.Story.{reserving, closing}
 use Rattle.model_rules.specs.Seen.{told, lastCommand}
@@ -25,5 +27,5 @@ use Rattle.model_rules.specs.Examples.{listing}
 
 -- the one claim
 pub model-agrees : Agrees listing
-unfolding bits shiftIn divide remainderOf lowBits times overlayOf over frames.replyRanged frames.allCallReplyRanged frames.selective frames.allCall frames.aReply frames.anAllCallReply frames.replying frames.allCallReplying headOf midOf selectiveHead allCallHead replyHead allCallReplyHead front sealed readAs selectiveRead allCallRead surveillanceRead codeFor drawn started messagesWith messagesAfter timerAfter timersAfter lapse startedByLOS startedByLSS commandOfSD commanded lockout lockedTo reserve closeout sending respond drawsBelow answers answerAllCall newborn makeRanged making queuing steps interrogated laidOver heardSelective heardAllCall taking after checked reserving closing told lastCommand sentTo
-model-agrees = (refl, (refl, (refl, (refl, (refl, (refl, (refl, (refl, (refl, (refl, (refl, (refl, (refl, (refl, (refl, (refl, (refl, (refl, (refl, (refl, (refl, (refl, (refl, (refl, (refl, (refl, (refl, (refl, (refl, (refl, (refl, (refl, (refl, (refl, (refl, (refl, (refl, (refl, (refl, (refl, (refl, (refl, (refl, (refl, (refl, (refl, (refl, (refl, (refl, (refl, (refl, (refl, (refl, (refl, (refl, (refl, (refl, (refl, tt))))))))))))))))))))))))))))))))))))))))))))))))))))))))))
+unfolding bits shiftIn divide remainderOf lowBits times overlayOf over frames.replyRanged frames.allCallReplyRanged frames.selective frames.allCall frames.aReply frames.anAllCallReply frames.replying frames.allCallReplying headOf midOf selectiveHead allCallHead replyHead allCallReplyHead front sealed readAs surveillanceRead upOf codeFor drawn started messagesWith messagesAfter timerAfter timersAfter lapse startedByLOS startedByLSS commandOfSD commanded lockout lockedTo reserve closeout sending respond drawsBelow answers answerAllCall newborn makeRanged making queuing steps interrogated laidOver selectiveComes allCallComes comes taking after checked checks reserving closing told lastCommand sentTo
+model-agrees = (refl, (refl, (refl, (refl, (refl, (refl, (refl, (refl, (refl, (refl, (refl, (refl, (refl, (refl, (refl, (refl, (refl, (refl, (refl, (refl, (refl, (refl, (refl, (refl, (refl, (refl, (refl, (refl, (refl, (refl, (refl, (refl, (refl, (refl, (refl, (refl, (refl, (refl, (refl, (refl, (refl, (refl, (refl, (refl, (refl, (refl, (refl, (refl, (refl, (refl, (refl, (refl, (refl, (refl, (refl, (refl, (refl, (refl, (refl, (refl, (refl, (refl, (refl, (refl, (refl, tt)))))))))))))))))))))))))))))))))))))))))))))))))))))))))))))))))

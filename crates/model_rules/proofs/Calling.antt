@@ -9,6 +9,7 @@ use lib.ListN.{replicate}
 use borrow.Author.Tests.{eqb-true, eqb-false, leb-true, le-leb}
 use Rattle.lists.specs.Lists.{pick}
 use Rattle.lists.proofs.Tests.{and-true}
+use Rattle.lists.specs.Checks.{checked}
 use Rattle.frames_rules.specs.Building.{allCallReplyRanged, anAllCallReply, allCallReplying}
 use Rattle.frames_rules.specs.Shared.{ofSI, siNumber, codeFor}
 use Rattle.frames_rules.specs.declared.answers.Interrogator.{Interrogator}
@@ -57,7 +58,7 @@ module _ (a : Aircraft) (m : made a .number ≡ 0) (cs : List Call) (time draw p
   eleven = sentBytes (anAllCallReply (a .ca) (a .address) cl ic)
 
   built : (leb cl 7 ≡ true) × (leb ic 15 ≡ true) → answering ≡ eleven
-  unfolding allCallReplying allCallReplyRanged sending
+  unfolding checked allCallReplying allCallReplyRanged sending
   built c =
       let k = kept-lapse a time (after a cs) (always-kept a m cs) in
       let r = ranges a (k .ranged) in

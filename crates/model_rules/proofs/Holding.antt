@@ -6,10 +6,11 @@ use mathlib.Core.Bool.{true, _&&_, not}
 use mathlib.Core.List.{List, [], _∷_, _++_}
 use mathlib.Core.Logic.{_⊎_, inl, inr}
 use lib.ListN as list
-use lib.ListN.{length, getD, drop, length-append}
+use lib.ListN.{length, drop, length-append}
 use borrow.Author.Tests.{ne-eqb}
 use Rattle.lists.proofs.Over.{take-over}
-use Rattle.frames_rules.specs.Reading.{readUp}
+use Rattle.frames_rules.specs.Interrogations.{upOf}
+use Rattle.frames_rules.specs.declared.answers.Up.{Up}
 use Rattle.model_rules.specs.declared.state.Holder.{Holder}
 use Rattle.model_rules.specs.declared.state.Holder.the-variants.{Nobody, Held}
 use Rattle.model_rules.specs.declared.state.Messages.{Messages}
@@ -19,9 +20,9 @@ use Rattle.model_rules.specs.Lapse.{isOver, holderAfter, lapse}
 use Rattle.model_rules.specs.Lockout.{iis, commanded, lockout}
 use Rattle.model_rules.specs.CommB.{asksToHold, nobodyElse, reserve, closes, closeout}
 use Rattle.model_rules.specs.Calls.{steps, taking}
-use Rattle.model_rules.specs.History.{Answer, take}
+use Rattle.model_rules.specs.History.{Afterwards, take}
 use Rattle.model_rules.specs.Kept.{heldWaits, HeldWaits}
-use Rattle.model_rules.proofs.Came.{of-pick, stepsOf, Came, refusal, did-lapse, did-steps, came}
+use Rattle.model_rules.proofs.Came.{of-pick, Stepped, still, did-steps, Came, refusal, did-take, came}
 
 -- ---- one message less
 front : (k : ℕ) (xs ys : List ℕ) → list.take (length (list.take k xs)) (xs ++ ys) ≡ list.take k xs
@@ -77,13 +78,15 @@ steps-one pc di sd t =
     subst (λ (m : Messages). AtMostOne m (closeout pc di sd (reserve di sd (lockout pc di sd t)) .messages)) (reserve-same di sd (lockout pc di sd t) ∙ lockout-same pc di sd t)
     (closeout-one pc di sd (reserve di sd (lockout pc di sd t)))
 
-removes : (t : Transponder) (time draw : ℕ) (f : List ℕ) (r : Answer) → Came t (take time draw f) r → AtMostOne (t .messages) (r .transponder .messages)
-removes t time draw f r (refusal n z e) = inl (ap (λ (x : Answer). waiting (x .transponder .messages)) e)
-removes t time draw f r (did-lapse _ _ _ i p e) = inl (ap (λ (x : Answer). waiting (x .transponder .messages)) e ∙ ap waiting (lapse-same time t))
-removes t time draw f r (did-steps _ _ _ i p e) =
-    let vs = readUp f .values in
-    subst (λ (x : Answer). AtMostOne (t .messages) (x .transponder .messages)) (sym e)
-    (subst (λ (m : Messages). AtMostOne m (stepsOf vs (lapse time t) .messages)) (lapse-same time t) (steps-one (getD vs 1 0) (getD vs 3 0) (getD vs 4 0) (lapse time t)))
+stepped-one : (t : Transponder) (x : Up) (u : Transponder) → Stepped t x u → AtMostOne (t .messages) (u .messages)
+stepped-one t x u (still n e) = inl (ap (λ (w : Transponder). waiting (w .messages)) e)
+stepped-one t x u (did-steps uf pc rr di sd ma r l e) = subst (λ (w : Transponder). AtMostOne (t .messages) (w .messages)) (sym e) (steps-one pc di sd t)
+
+removes : (t : Transponder) (time draw : ℕ) (f : List ℕ) (r : Afterwards) → Came t (take time draw f) r → AtMostOne (t .messages) (r .transponder .messages)
+removes t time draw f r (refusal n z e) = inl (ap (λ (x : Afterwards). waiting (x .transponder .messages)) e)
+removes t time draw f r (did-take _ _ _ u p i e) =
+    subst (λ (x : Afterwards). AtMostOne (t .messages) (x .transponder .messages)) (sym e)
+    (subst (λ (m : Messages). AtMostOne m (u .messages)) (lapse-same time t) (stepped-one (lapse time t) (upOf f) u i))
 
 pub a-frame-removes-at-most-one : (t : Transponder) (time draw : ℕ) (f : List ℕ) → AtMostOne (t .messages) (taking t time draw f .transponder .messages)
 a-frame-removes-at-most-one t time draw f = removes t time draw f _ (came t (take time draw f))

@@ -5,14 +5,17 @@ use mathlib.Core.Path.{_≡_, refl, sym, ap, _∙_, subst}
 use mathlib.Core.Bool.{Bool, true, false, _&&_}
 use mathlib.Core.List.{List, [], _∷_}
 use lib.Dec.{eqb, leb}
-use lib.ListN.{length, getD, drop, length-append, length-drop, length-map, length-set}
-use borrow.Author.Tests.{leb-true}
+use lib.ListN.{length, drop, length-append, length-drop, length-map, length-set}
+use borrow.Author.Tests.{leb-true, not-false}
 use Rattle.lists.specs.Lists.{pick, All}
+use Rattle.lists.specs.Checks.{Check, checked}
+use Rattle.lists.proofs.Checks.{CameTo, was-refused, was-done, came-to}
 use Rattle.lists.proofs.Tests.{and-true}
 use Rattle.lists.proofs.Held.{all-snoc}
 use Rattle.parity_rules.specs.Messages.{AreBytes}
 use Rattle.frames_rules.specs.Bytes.{numberOfBytes}
-use Rattle.frames_rules.specs.Reading.{readUp}
+use Rattle.frames_rules.specs.Interrogations.{upOf}
+use Rattle.frames_rules.specs.declared.answers.Up.{Up}
 use Rattle.frames_rules.proofs.Numbers.{number-lt}
 use Rattle.model_rules.specs.declared.state.Holder.{Holder}
 use Rattle.model_rules.specs.declared.state.Holder.the-variants.{Nobody, Held}
@@ -24,23 +27,29 @@ use Rattle.model_rules.specs.State.{waiting, waits, started, keeping, me
 use Rattle.model_rules.specs.Lapse.{isOver, timerAfter, timersAfter, holderAfter, lapse}
 use Rattle.model_rules.specs.Lockout.{iis, commanded, lockout}
 use Rattle.model_rules.specs.CommB.{mbs, asksToHold, nobodyElse, reserve, closes, closeout}
-use Rattle.model_rules.specs.Calls.{newborn, makeRanged, making, steps}
-use Rattle.model_rules.specs.History.{Aircraft, made, Call, queue, Answer, answer, after}
+use Rattle.model_rules.specs.Calls.{newborn, makeRanged, makingChecks, notMade, isMade, making, steps}
+use Rattle.model_rules.specs.History.{Aircraft, made, Call, queue, Afterwards, answer, after}
 use Rattle.model_rules.specs.Kept.{HolderIn, Of56Bits, As, Kept}
-use Rattle.model_rules.proofs.Came.{of-pick, Came, refusal, did-queue, did-lapse, did-steps, came}
+use Rattle.model_rules.proofs.Came.{of-pick, Stepped, still, did-steps, Came, refusal, did-queue, did-take, came}
 use Rattle.model_rules.proofs.Holding.{waiting-after, waiting-with, queued-held, lapse-held}
 
 -- ---- a making that is not refused
 pub ranged-of : (a : Aircraft) → made a .number ≡ 0 → makeRanged (a .address) (a .ac) (a .id) (a .fs) (a .ca) ≡ true
 unfolding making
-ranged-of a = go (makeRanged (a .address) (a .ac) (a .id) (a .fs) (a .ca))
+ranged-of a n = go (made a) n (came-to notMade born cs refl)
   where
-    go : (b : Bool) → pick {A = Made} b (record { number = 0; transponder = newborn (a .address) (a .ac) (a .id) (a .fs) (a .ca) }) (record { number = 2; transponder = newborn 0 0 0 0 0 }) .number ≡ 0 → b ≡ true
-    go true e = refl
-    go false e = let z : _≡_ {A = ℕ} 2 0 = e in absurd (omega arith)
+    cs : List Check
+    cs = makingChecks (a .address) (a .ac) (a .id) (a .fs) (a .ca)
+
+    born : Made
+    born = isMade (newborn (a .address) (a .ac) (a .id) (a .fs) (a .ca))
+
+    go : (r : Made) → r .number ≡ 0 → CameTo cs notMade born r → makeRanged (a .address) (a .ac) (a .id) (a .fs) (a .ca) ≡ true
+    go r n (was-refused x z i g e) = absurd (z (sym (ap (λ (y : Made). y .number) e) ∙ n))
+    go r n (was-done p g e) = not-false (makeRanged (a .address) (a .ac) (a .id) (a .fs) (a .ca)) (p .off 2)
 
 kept-made : (a : Aircraft) → made a .number ≡ 0 → Kept a (made a .transponder)
-unfolding making newborn All
+unfolding checked making newborn All
 kept-made a e =
     let r = ranged-of a e in
     rw r
@@ -155,13 +164,15 @@ module _ (a : Aircraft) where
   unfolding steps
   kept-steps pc di sd t k = kept-closeout pc di sd (reserve di sd (lockout pc di sd t)) (kept-reserve di sd (lockout pc di sd t) (kept-lockout pc di sd t k))
 
-  kept-next : (t : Transponder) (c : Call) (r : Answer) → Came t c r → Kept a t → Kept a (r .transponder)
-  kept-next t c r (refusal n z e) k = subst (λ (x : Answer). Kept a (x .transponder)) (sym e) k
-  kept-next t c r (did-queue m b l w e) k = subst (λ (x : Answer). Kept a (x .transponder)) (sym e) (kept-queue t m b l w k)
-  kept-next t c r (did-lapse time draw f i p e) k = subst (λ (x : Answer). Kept a (x .transponder)) (sym e) (kept-lapse time t k)
-  kept-next t c r (did-steps time draw f i p e) k =
-      let vs = readUp f .values in
-      subst (λ (x : Answer). Kept a (x .transponder)) (sym e) (kept-steps (getD vs 1 0) (getD vs 3 0) (getD vs 4 0) (lapse time t) (kept-lapse time t k))
+  kept-stepped : (t : Transponder) (x : Up) (u : Transponder) → Stepped t x u → Kept a t → Kept a u
+  kept-stepped t x u (still n e) k = subst (Kept a) (sym e) k
+  kept-stepped t x u (did-steps uf pc rr di sd ma r l e) k = subst (Kept a) (sym e) (kept-steps pc di sd t k)
+
+  kept-next : (t : Transponder) (c : Call) (r : Afterwards) → Came t c r → Kept a t → Kept a (r .transponder)
+  kept-next t c r (refusal n z e) k = subst (λ (x : Afterwards). Kept a (x .transponder)) (sym e) k
+  kept-next t c r (did-queue m b l w e) k = subst (λ (x : Afterwards). Kept a (x .transponder)) (sym e) (kept-queue t m b l w k)
+  kept-next t c r (did-take time draw f u p i e) k =
+      subst (λ (x : Afterwards). Kept a (x .transponder)) (sym e) (kept-stepped (lapse time t) (upOf f) u i (kept-lapse time t k))
 
   -- ---- of every history
   pub always-kept : made a .number ≡ 0 → (cs : List Call) → Kept a (after a cs)
@@ -178,7 +189,7 @@ reserve-time : (di sd : ℕ) (t : Transponder) → reserve di sd t .time ≡ t .
 unfolding reserve
 reserve-time di sd t = of-pick (λ (u : Transponder). u .time ≡ t .time) (asksToHold di sd && waits (t .messages) && nobodyElse (iis sd) (t .holder)) _ t refl refl
 
-pub steps-time : (pc di sd : ℕ) (t : Transponder) → steps pc di sd t .time ≡ t .time
+steps-time : (pc di sd : ℕ) (t : Transponder) → steps pc di sd t .time ≡ t .time
 unfolding steps lockout commanded
 steps-time pc di sd t = closeout-time pc di sd (reserve di sd (lockout pc di sd t)) ∙ reserve-time di sd (lockout pc di sd t)
 
@@ -186,15 +197,15 @@ pub lapse-time : (now : ℕ) (t : Transponder) → lapse now t .time ≡ now
 unfolding lapse
 lapse-time now t = refl
 
-forward : (t : Transponder) (c : Call) (r : Answer) → Came t c r → t .time ≤ r .transponder .time
-forward t c r (refusal n z e) = let q : r .transponder .time ≡ t .time = ap (λ (x : Answer). x .transponder .time) e in omega (arith, q)
-forward t c r (did-queue m b l w e) = let q : r .transponder .time ≡ t .time = ap (λ (x : Answer). x .transponder .time) e in omega (arith, q)
-forward t c r (did-lapse time draw f i p e) =
-    let q : r .transponder .time ≡ time = ap (λ (x : Answer). x .transponder .time) e ∙ lapse-time time t in
-    omega (arith, q, p)
-forward t c r (did-steps time draw f i p e) =
-    let vs = readUp f .values in
-    let q : r .transponder .time ≡ time = ap (λ (x : Answer). x .transponder .time) e ∙ steps-time (getD vs 1 0) (getD vs 3 0) (getD vs 4 0) (lapse time t) ∙ lapse-time time t in
+pub stepped-time : (t : Transponder) (x : Up) (u : Transponder) → Stepped t x u → u .time ≡ t .time
+stepped-time t x u (still n e) = ap (λ (w : Transponder). w .time) e
+stepped-time t x u (did-steps uf pc rr di sd ma r l e) = ap (λ (w : Transponder). w .time) e ∙ steps-time pc di sd t
+
+forward : (t : Transponder) (c : Call) (r : Afterwards) → Came t c r → t .time ≤ r .transponder .time
+forward t c r (refusal n z e) = let q : r .transponder .time ≡ t .time = ap (λ (x : Afterwards). x .transponder .time) e in omega (arith, q)
+forward t c r (did-queue m b l w e) = let q : r .transponder .time ≡ t .time = ap (λ (x : Afterwards). x .transponder .time) e in omega (arith, q)
+forward t c r (did-take time draw f u p i e) =
+    let q : r .transponder .time ≡ time = ap (λ (x : Afterwards). x .transponder .time) e ∙ stepped-time (lapse time t) (upOf f) u i ∙ lapse-time time t in
     omega (arith, q, p)
 
 pub time-never-goes-back : (t : Transponder) (c : Call) → t .time ≤ answer t c .transponder .time
@@ -204,6 +215,6 @@ time-never-goes-back t c = forward t c (answer t c) (came t c)
 pub queuing-moves-no-time : (t : Transponder) (m : List ℕ) (b : AreBytes m) → answer t (queue m b) .transponder .time ≡ t .time
 queuing-moves-no-time t m b = go (answer t (queue m b)) (came t (queue m b))
   where
-    go : (r : Answer) → Came t (queue m b) r → r .transponder .time ≡ t .time
-    go r (refusal n z e) = ap (λ (x : Answer). x .transponder .time) e
-    go r (did-queue _ _ l w e) = ap (λ (x : Answer). x .transponder .time) e
+    go : (r : Afterwards) → Came t (queue m b) r → r .transponder .time ≡ t .time
+    go r (refusal n z e) = ap (λ (x : Afterwards). x .transponder .time) e
+    go r (did-queue _ _ l w e) = ap (λ (x : Afterwards). x .transponder .time) e

@@ -8,7 +8,10 @@ use lib.Dec.{eqb}
 use lib.ListN.{length, getD, replicate}
 use borrow.Author.Tests.{eqb-true, eqb-false, ne-eqb}
 use Rattle.lists.specs.Lists.{pick}
-use Rattle.frames_rules.specs.Reading.{readUp}
+use Rattle.lists.specs.Checks.{checked}
+use Rattle.frames_rules.specs.Interrogations.{upOf}
+use Rattle.frames_rules.specs.declared.answers.Up.{Up}
+use Rattle.frames_rules.specs.declared.answers.Up.the-variants as up
 use Rattle.frames_rules.specs.declared.answers.Interrogator.{Interrogator}
 use Rattle.frames_rules.specs.declared.answers.Interrogator.the-variants.{II, SI, Nobody}
 use Rattle.model_rules.specs.declared.state.Lock.{Lock}
@@ -21,12 +24,12 @@ use Rattle.model_rules.specs.Lapse.{isOver, lockAfter, timerAfter, lapse
 use Rattle.model_rules.specs.Lockout.{iis, los, sis, lss, commandOfPC, startedByLOS, startedByLSS, commandOfSD, commanded, lockout, locks, lockedTo}
 use Rattle.model_rules.specs.CommB.{asksToHold, nobodyElse, reserve, closes, closeout}
 use Rattle.model_rules.specs.Calls.{newborn, making, steps}
-use Rattle.model_rules.specs.History.{Aircraft, made, Call, queue, take, Answer, answer, after}
+use Rattle.model_rules.specs.History.{Aircraft, made, Call, queue, take, Afterwards, answer, after}
 use Rattle.model_rules.specs.Kept.{Kept}
 use Rattle.model_rules.specs.Story.{lasts}
-use Rattle.model_rules.specs.Seen.{ACode, isCode, isFor, told, commandsIn, commandAfter, lastCommand, lockedSince}
-use Rattle.model_rules.proofs.Came.{of-pick, stepsOf, Came, refusal, did-queue, did-lapse, did-steps, came}
-use Rattle.model_rules.proofs.Keeping.{ranged-of, kept-lapse, always-kept, steps-time, lapse-time}
+use Rattle.model_rules.specs.Seen.{ACode, isCode, told, commandsIn, commands, commandAfter, lastCommand, lockedSince}
+use Rattle.model_rules.proofs.Came.{of-pick, NotFor, Stepped, still, did-steps, Came, refusal, did-queue, did-take, came}
+use Rattle.model_rules.proofs.Keeping.{ranged-of, kept-lapse, always-kept, stepped-time, lapse-time}
 use Rattle.model_rules.proofs.Telling.{numbers, always-told}
 use Rattle.model_rules.proofs.Timing.{over-or-lasts, over-later, at-place, own-timer, other-timer, si-not-ii, ii-one, si-one, started-length}
 
@@ -137,7 +140,7 @@ idle-at (suc n) zero = refl
 idle-at (suc n) (suc k) = idle-at n k
 
 newborn-lock : (a : Aircraft) → made a .number ≡ 0 → (c : Interrogator) → lockAt c (made a .transponder .timers) ≡ Never
-unfolding making newborn
+unfolding checked making newborn
 newborn-lock a m c = rw (ranged-of a m) (ap (λ (x : Timer). x .lock) (idle-at 79 (placeOf c)))
 
 -- ---- by the transponder and by what was seen
@@ -145,7 +148,7 @@ module _ (a : Aircraft) (c : Interrogator) (ok : ACode c) where
   abbrev Agree : Transponder → Lock → Type 0
   Agree t l = (now : ℕ) → t .time ≤ now → lockAfter now (lockAt c (t .timers)) ≡ lockAfter now l
 
-  abbrev Next : Call → Lock → Answer → Type 0
+  abbrev Next : Call → Lock → Afterwards → Type 0
   Next x l r = Agree (r .transponder) (commandAfter a c x (r .number) l)
 
   lapse-agrees : (t : Transponder) (time : ℕ) (l : Lock) → t .time ≤ time → Agree t l → Agree (lapse time t) l
@@ -157,33 +160,37 @@ module _ (a : Aircraft) (c : Interrogator) (ok : ACode c) where
   passed-over (queue m b) n l z = refl
   passed-over (take time draw f) n l z = rw (ne-eqb n 0 z)
 
-  agree-next : (t : Transponder) → Kept a t → (l : Lock) (x : Call) (r : Answer) → Came t x r → Agree t l → Next x l r
-  agree-next t k l x r (refusal n z e) h = subst (Next x l) (sym e) (subst (Agree t) (sym (passed-over x n l z)) h)
+  commands-nothing : (address : ℕ) (x : Up) → NotFor address x → commands address c x ≡ false
+  commands-nothing address (up.Selective uf pc rr di sd ma r) n = rw n
+  commands-nothing address (up.AllCall pr ic cl r) n = refl
+  commands-nothing address up.Length n = refl
+  commands-nothing address up.Format n = refl
+
+  -- a frame starts the timer of a code that it commands, and leaves that of any other
+  stepped-lock : (t : Transponder) (x : Up) (u : Transponder) → Stepped t x u → length (t .timers .list) ≡ 79
+      → lockAt c (u .timers) ≡ pick (commands (t .address) c x) (Since (t .time)) (lockAt c (t .timers))
+  stepped-lock t x u (still n e) h = rw (commands-nothing (t .address) x n, e)
+  stepped-lock t x u (did-steps uf pc rr di sd ma r l e) h = rw (l, e) (ap (lockAt c) (steps-timers pc di sd t) ∙ lockout-lock c ok pc di sd t h)
+
+  agree-next : (t : Transponder) → Kept a t → (l : Lock) (x : Call) (r : Afterwards) → Came t x r → Agree t l → Next x l r
+  agree-next t k l x r (refusal n z e) h = subst (Next x l) (sym e) (subst (Agree t) (sym (passed-over x (n .number) l z)) h)
   agree-next t k l x r (did-queue m b w v e) h = subst (Next (queue m b) l) (sym e) h
-  agree-next t k l x r (did-lapse time draw f i p e) h =
-      let same : isFor (a .address) (readUp f .values) ≡ false = ap (λ (n : ℕ). isFor n (readUp f .values)) (sym (k .same .address)) ∙ i in
-      let none : commandAfter a c (take time draw f) 0 l ≡ l = rw same in
-      subst (Next (take time draw f) l) (sym e) (subst (Agree (lapse time t)) (sym none) (lapse-agrees t time l p h))
-  agree-next t k l x r (did-steps time draw f i p e) h =
-      let vs = readUp f .values in
-      let u = lapse time t in
-      let same : isFor (a .address) vs ≡ true = ap (λ (n : ℕ). isFor n vs) (sym (k .same .address)) ∙ i in
-      let seen : commandAfter a c (take time draw f) 0 l ≡ pick (commandsIn c vs) (Since time) l = rw same in
-      let timer : lockAt c (stepsOf vs u .timers) ≡ pick (commandsIn c vs) (Since time) (lockAt c (u .timers)) = stepped vs t time k in
-      let when : stepsOf vs u .time ≡ time = steps-time (getD vs 1 0) (getD vs 3 0) (getD vs 4 0) u ∙ lapse-time time t in
+  agree-next t k l x r (did-take time draw f u p i e) h =
+      let v = lapse time t in
+      let kept = kept-lapse a time t k in
+      let b = commands (a .address) c (upOf f) in
+      let timer : lockAt c (u .timers) ≡ pick b (Since time) (lockAt c (v .timers)) = stepped-lock v (upOf f) u i (kept .timers)
+      ∙ ap (λ (n : ℕ). pick (commands n c (upOf f)) (Since (v .time)) (lockAt c (v .timers))) (kept .same .address)
+      ∙ ap (λ (s : ℕ). pick b (Since s) (lockAt c (v .timers))) (lapse-time time t) in
+      let when : u .time ≡ time = stepped-time v (upOf f) u i ∙ lapse-time time t in
       subst (Next (take time draw f) l) (sym e)
-      (subst (Agree (stepsOf vs u)) (sym seen)
-      (λ now q. ap (lockAfter now) timer ∙ by-bool (commandsIn c vs) now (Since time) (lockAt c (u .timers)) l (lapse-agrees t time l p h now (rw (lapse-time time t) (rw when at q)))))
+      (λ now q.
+      ap (lockAfter now) timer
+      ∙ by-bool b now (Since time) (lockAt c (v .timers)) l (lapse-agrees t time l p h now (rw (lapse-time time t) (rw when at q))))
     where
       by-bool : (b : Bool) (now : ℕ) (s x l : Lock) → lockAfter now x ≡ lockAfter now l → lockAfter now (pick b s x) ≡ lockAfter now (pick b s l)
       by-bool true now s x l h = refl
       by-bool false now s x l h = h
-
-      stepped : (vs : List ℕ) (t : Transponder) (time : ℕ) → Kept a t → lockAt c (stepsOf vs (lapse time t) .timers) ≡ pick (commandsIn c vs) (Since time) (lockAt c (lapse time t .timers))
-      stepped vs t time k =
-          ap (lockAt c) (steps-timers (getD vs 1 0) (getD vs 3 0) (getD vs 4 0) (lapse time t))
-          ∙ lockout-lock c ok (getD vs 1 0) (getD vs 3 0) (getD vs 4 0) (lapse time t) (kept-lapse a time t k .timers)
-          ∙ ap (λ (s : ℕ). pick (commandsIn c vs) (Since s) (lockAt c (lapse time t .timers))) (lapse-time time t)
 
   agree-always : made a .number ≡ 0 → (cs : List Call) → Agree (after a cs) (lastCommand a c cs)
   unfolding after lastCommand

@@ -1,22 +1,21 @@
 -- Theorems of replies to selective interrogations: one always draws a format, no field of the reply is out of its range, and the reply is the story's.
 use Prim.Native.Nat.{ℕ, _+_, _*_, _≤_}
 use native.Mathlib.Omega.{arith}
-use mathlib.Core.Path.{_≡_, refl, sym, ap, _∙_}
+use mathlib.Core.Path.{_≡_, refl, sym, ap, _∙_, subst}
 use mathlib.Core.Bool.{Bool, true, false, _&&_, _||_, not, false≢true}
 use mathlib.Core.List.{List, [], _∷_}
 use lib.Dec.{eqb, leb}
 use lib.ListN.{length, getD, length-replicate}
 use borrow.Author.Tests.{eqb-true, eq-eqb, le-leb}
 use Rattle.lists.specs.Lists.{pick, All}
+use Rattle.lists.specs.Checks.{checked}
 use Rattle.lists.proofs.Tests.{and-true, and-yes}
-use Rattle.parity_rules.specs.Messages.{bits, whole}
-use Rattle.parity_rules.specs.Division.{remainderOf}
 use Rattle.frames_rules.specs.Building.{isAddress, aReply, replyRanged, replying}
-use Rattle.frames_rules.specs.Formats.{longFormat, surveillance, lengthOf, listed}
-use Rattle.frames_rules.specs.Answers.{refusal}
-use Rattle.frames_rules.specs.Fields.{headOf, midOf}
-use Rattle.frames_rules.specs.Reading.{formatOf, readAs, selectiveRead, allCallRead, readUp}
+use Rattle.frames_rules.specs.Formats.{longFormat, surveillance, lengthOf}
+use Rattle.frames_rules.specs.Interrogations.{upOf}
 use Rattle.frames_rules.specs.Shared.{shortReply, drawn}
+use Rattle.frames_rules.specs.declared.answers.Up.the-variants as up
+use Rattle.frames_rules.proofs.Interrogations.{InFields, in-fields}
 use Rattle.frames_rules.specs.declared.answers.Draws.the-variants.{Format}
 use Rattle.frames_rules.specs.declared.answers.Interrogator.the-variants.{Nobody}
 use Rattle.model_rules.specs.declared.state.Holder.{Holder}
@@ -34,7 +33,7 @@ use Rattle.model_rules.specs.Replied.{formatDrawn, valueFor, replyOn}
 use Rattle.model_rules.proofs.Came.{of-pick}
 use Rattle.model_rules.proofs.Telling.{some-wait, Agree}
 
--- ---- the format that is drawn: it is listed, and long for RR 16
+-- ---- the format that is drawn: it is listed, and long for RR 16; "UF 4/20 draw AC, UF 5/21 draw ID; RR 16 and above draws the long form"
 pub record Drawn (rr df : ℕ) : Type 0 where
   pub listed : surveillance df ≡ true
   pub long : rr ≡ 16 → longFormat df ≡ true
@@ -56,25 +55,9 @@ drawn-format uf rr p q = rw (p, le-leb rr 31 q) (go (leb 16 rr))
     go true = refl
     go false = refl
 
--- a selective interrogation that is read has a listed UF and an RR of 5 bits, so it always draws a format
-read-in : (f : List ℕ) → let vs = readUp f .values in eqb (length vs) 7 ≡ true → (surveillance (getD vs 0 0) ≡ true) × (getD vs 2 0 ≤ 31)
-unfolding readAs selectiveRead allCallRead
-read-in f = go (whole (length f)) (listed (formatOf f) (length f)) refl (eqb (formatOf f) 11) refl
-  where
-    go : (x y : Bool) → listed (formatOf f) (length f) ≡ y → (z : Bool) → eqb (formatOf f) 11 ≡ z
-        → let vs = pick x (pick y (pick z (allCallRead (headOf f) (remainderOf (bits f))) (selectiveRead (headOf f) (midOf f) (remainderOf (bits f)))) (refusal 14)) (refusal 1) .values in
-        eqb (length vs) 7 ≡ true → (surveillance (getD vs 0 0) ≡ true) × (getD vs 2 0 ≤ 31)
-    go false y p z q e = absurd (false≢true e)
-    go true false p z q e = absurd (false≢true e)
-    go true true p true q e = absurd (false≢true e)
-    go true true p false q e =
-        let l = and-true (eqb (length f) (lengthOf (formatOf f))) (eqb (formatOf f) 11 || surveillance (formatOf f)) p .1 in
-        (rw q at l, omega arith)
-
--- "UF 4/20 draw AC, UF 5/21 draw ID; RR 16 and above draws the long form"
-pub always-drawn : (f : List ℕ) → let vs = readUp f .values in
-    eqb (length vs) 7 ≡ true → drawn (getD vs 0 0) (getD vs 2 0) ≡ Format (formatDrawn (getD vs 0 0) (getD vs 2 0))
-always-drawn f e = let i = read-in f e in drawn-format (getD (readUp f .values) 0 0) (getD (readUp f .values) 2 0) (i .0) (i .1)
+-- a selective interrogation always draws a format
+pub always-drawn : (f : List ℕ) (uf pc rr di sd ma r : ℕ) → upOf f ≡ up.Selective uf pc rr di sd ma r → drawn uf rr ≡ Format (formatDrawn uf rr)
+always-drawn f uf pc rr di sd ma r e = let i = subst InFields e (in-fields f) in drawn-format uf rr (i .0) (i .1)
 
 -- ---- every field of a reply is in its range
 first-in : (v : List ℕ) → All Of56Bits v → getD v 0 0 ≤ 0xFFFFFFFFFFFFFF
@@ -170,7 +153,7 @@ module _ (a : Aircraft) (u : Transponder) (k : Kept a u) (s : Told) (g : Agree u
   replying-with dr um mb = sentBytes (aReply df (a .fs) dr um (valueFor uf a) mb (a .address))
 
   responds : drawn uf rr ≡ Format df → respond uf rr di sd u ≡ replying-with (drOf (u .messages)) (umOf di sd (u .holder)) (mbOf rr di sd (u .messages))
-  unfolding respond replying sending
+  unfolding checked respond replying sending
   responds e =
       let long = eq-eqb (lengthOf df) (lengthOf df) refl in
       rw (e, k .same .fs, k .same .ac, k .same .id, k .same .address, drawn-is uf rr .listed, length-replicate {A = ℕ} (lengthOf df) 0, long, reply-ranged)

@@ -5,11 +5,14 @@ use mathlib.Core.Path.{_≡_, refl, sym, ap, _∙_, subst}
 use mathlib.Core.Bool.{Bool, true, false, _&&_, not}
 use mathlib.Core.List.{List, [], _∷_, _++_}
 use lib.Dec.{eqb, leb}
-use lib.ListN.{length, getD, drop}
+use lib.ListN.{length, drop}
 use borrow.Author.Tests.{eqb-true, ne-eqb, leb-false, lt-ltb}
 use Rattle.lists.specs.Lists.{pick}
+use Rattle.lists.specs.Checks.{checked}
 use Rattle.frames_rules.specs.Bytes.{numberOfBytes}
-use Rattle.frames_rules.specs.Reading.{readUp}
+use Rattle.frames_rules.specs.Interrogations.{upOf}
+use Rattle.frames_rules.specs.declared.answers.Up.{Up}
+use Rattle.frames_rules.specs.declared.answers.Up.the-variants as up
 use Rattle.model_rules.specs.declared.state.Holder.{Holder}
 use Rattle.model_rules.specs.declared.state.Holder.the-variants.{Nobody, Held}
 use Rattle.model_rules.specs.declared.state.Transponder.{Transponder}
@@ -18,13 +21,13 @@ use Rattle.model_rules.specs.Lapse.{isOver, holderAfter, lapse}
 use Rattle.model_rules.specs.Lockout.{iis, commanded, lockout}
 use Rattle.model_rules.specs.CommB.{asksToHold, nobodyElse, reserve, closes, closeout}
 use Rattle.model_rules.specs.Calls.{newborn, making, steps}
-use Rattle.model_rules.specs.History.{Aircraft, made, Call, queue, take, Answer, answer, after}
+use Rattle.model_rules.specs.History.{Aircraft, made, Call, queue, take, Afterwards, answer, after}
 use Rattle.model_rules.specs.Kept.{HolderIn, Kept}
 use Rattle.model_rules.specs.Story.{Told, untold, lasts, holdsAt, heldBy}
-use Rattle.model_rules.specs.Story.{withMessage, moved, saysMBS, mayReserve, reservedFor, reserving, closesOut, closed, closing, framed}
-use Rattle.model_rules.specs.Seen.{toldAfter, numberOn, told}
+use Rattle.model_rules.specs.Story.{withMessage, moved, saysMBS, mayReserve, reservedFor, reserving, closesOut, closed, closing}
+use Rattle.model_rules.specs.Seen.{interrogates, toldAfter, numberOn, told}
 use Rattle.model_rules.specs.Demands.{Holds}
-use Rattle.model_rules.proofs.Came.{stepsOf, Came, refusal, did-queue, did-lapse, did-steps, came}
+use Rattle.model_rules.proofs.Came.{NotFor, Stepped, still, did-steps, Came, refusal, did-queue, did-take, came}
 use Rattle.model_rules.proofs.Holding.{waiting-after, waiting-with}
 use Rattle.model_rules.proofs.Keeping.{ranged-of, kept-lapse, always-kept}
 use Rattle.model_rules.proofs.Numbers.{number-on}
@@ -130,37 +133,47 @@ closeout-agrees pc di sd t s g =
     go true = record { clock = g .clock; messages = waiting-after (t .messages) ∙ ap (drop 1) (g .messages); holder = refl }
     go false = g
 
-pub steps-agree : (vs : List ℕ) (t : Transponder) (s : Told) → HolderIn (t .holder) → Agree t s → Agree (stepsOf vs t) (framed vs s)
+steps-agree : (pc di sd : ℕ) (t : Transponder) (s : Told) → HolderIn (t .holder) → Agree t s → Agree (steps pc di sd t) (closing pc di sd (reserving di sd s))
 unfolding steps lockout commanded
-steps-agree vs t s k g =
-    let pc = getD vs 1 0 in
-    let di = getD vs 3 0 in
-    let sd = getD vs 4 0 in
+steps-agree pc di sd t s k g =
     closeout-agrees pc di sd (reserve di sd (lockout pc di sd t)) (reserving di sd s)
     (reserve-agrees di sd (lockout pc di sd t) s k (record { clock = g .clock; messages = g .messages; holder = g .holder }))
 
+-- ---- a frame
+told-still : (address : ℕ) (x : Up) (s : Told) → NotFor address x → interrogates address x s ≡ s
+told-still address (up.Selective uf pc rr di sd ma r) s n = rw n
+told-still address (up.AllCall pr ic cl r) s n = refl
+told-still address up.Length s n = refl
+told-still address up.Format s n = refl
+
+stepped-agree : (t : Transponder) (x : Up) (u : Transponder) (s : Told) → Stepped t x u → HolderIn (t .holder) → Agree t s
+    → Agree u (interrogates (t .address) x s)
+stepped-agree t x u s (still n e) k g = subst (Agree u) (sym (told-still (t .address) x s n)) (subst (λ (w : Transponder). Agree w s) (sym e) g)
+stepped-agree t x u s (did-steps uf pc rr di sd ma r l e) k g = rw (l, e) (steps-agree pc di sd t s k g)
+
 -- ---- a new transponder
 newborn-agrees : (a : Aircraft) → made a .number ≡ 0 → Agree (made a .transponder) untold
-unfolding making newborn
+unfolding checked making newborn
 newborn-agrees a m = rw (ranged-of a m) (record { clock = refl; messages = refl; holder = refl })
 
 -- ---- one call more
 module _ (a : Aircraft) where
-  abbrev Next : Call → Told → Answer → Type 0
+  abbrev Next : Call → Told → Afterwards → Type 0
   Next c s r = Agree (r .transponder) (toldAfter a c (r .number) s)
 
-  agree-next : (t : Transponder) → Kept a t → (s : Told) (c : Call) (r : Answer) → Came t c r → Agree t s → Next c s r
-  agree-next t k s c r (refusal n z e) g = subst (Next c s) (sym e) (rw (ne-eqb n 0 z) g)
+  agree-next : (t : Transponder) → Kept a t → (s : Told) (c : Call) (r : Afterwards) → Came t c r → Agree t s → Next c s r
+  agree-next t k s c r (refusal x z e) g = subst (Next c s) (sym e) (rw (ne-eqb (x .number) 0 z) g)
   agree-next t k s c r (did-queue m b l w e) g = subst (Next (queue m b) s) (sym e) (queue-agrees (numberOfBytes m) t s g)
-  agree-next t k s c r (did-lapse time draw f i p e) g = subst (Next (take time draw f) s) (sym e) (rw (← k .same .address, i) (lapse-agrees t s time p g))
-  agree-next t k s c r (did-steps time draw f i p e) g =
+  agree-next t k s c r (did-take time draw f u p i e) g =
+      let l = kept-lapse a time t k in
       subst (Next (take time draw f) s) (sym e)
-      (rw (← k .same .address, i) (steps-agree (readUp f .values) (lapse time t) (moved time s) (kept-lapse a time t k .holder) (lapse-agrees t s time p g)))
+      (subst (λ (n : ℕ). Agree u (interrogates n (upOf f) (moved time s))) (l .same .address)
+      (stepped-agree (lapse time t) (upOf f) u (moved time s) i (l .holder) (lapse-agrees t s time p g)))
 
   -- ---- of every history
   module _ (m : made a .number ≡ 0) where
     number-is : (cs : List Call) → Agree (after a cs) (told a cs) → (c : Call) → answer (after a cs) c .number ≡ numberOn (told a cs) c
-    number-is cs g = number-on (after a cs) (told a cs) (g .clock) (ap length (g .messages)) (always-kept a m cs .eight)
+    number-is cs g = number-on (after a cs) (told a cs) (g .clock) (ap length (g .messages))
 
     pub agree-always : (cs : List Call) → Agree (after a cs) (told a cs)
     unfolding after told

@@ -10,7 +10,7 @@ use Rattle.frames_rules.specs.Building as frames
 use Rattle.frames_rules.specs.Fields.{bitsTo, inField}
 use Rattle.frames_rules.specs.Reading.{readDown}
 use Rattle.model_rules.specs.declared.state.Sent.{Sent}
-use Rattle.model_rules.specs.Calls.{queuing, taking}
+use Rattle.model_rules.specs.Calls.{making, queuing, taking}
 use Rattle.model_rules.specs.History as history
 use Rattle.model_rules.specs.History.{Aircraft, Call, after}
 use Rattle.model_rules.specs.Story.{heldBy, showsDR, showsUM, showsMB}
@@ -41,6 +41,10 @@ seven-bytes b h = (omega arith, (omega arith, (omega arith, (omega arith, (omega
 pub six-bytes : AreBytes (replicate 6 0)
 unfolding All
 six-bytes = (omega arith, (omega arith, (omega arith, (omega arith, (omega arith, (omega arith, tt))))))
+
+pub eight-bytes : AreBytes (0 ∷ seven 0)
+unfolding All
+eight-bytes = (omega arith, seven-bytes 0 (omega arith))
 
 abbrev message : (b : ℕ) → b < 256 → Call
 message b h = history.queue (seven b) (seven-bytes b h)
@@ -204,7 +208,20 @@ closeouts =
     ∷ shown (message 0xAA (omega arith) ∷ ask 0 4 0 1 (iis 3 + mbs 1) ∷ []) 0 0 16 0 0 (1 ∷ 0 ∷ 0xAA ∷ [])
     ∷ []
 
--- ---- refusals, after a frame at 100
+-- ---- the lines of the tables, on either side of their edges
+-- the numbers of makings with an address, AC, ID, FS and CA
+abbrev born : ℕ → ℕ → ℕ → ℕ → ℕ → ℕ
+born address ac id fs ca = making address ac id fs ca .number
+
+abbrev makings : List Row
+makings =
+    -- "address 1 to 16,777,214"
+    row (born 0 0 0 0 0 ∷ born 1 0 0 0 0 ∷ born 16777214 8191 8191 7 7 ∷ born 16777215 0 0 0 0 ∷ []) (2 ∷ 0 ∷ 0 ∷ 2 ∷ [])
+    -- "AC and ID 13 bits", "FS, CA 0 to 7"
+    ∷ row (born 1 8192 0 0 0 ∷ born 1 0 8192 0 0 ∷ born 1 0 0 8 0 ∷ born 1 0 0 0 8 ∷ []) (2 ∷ 2 ∷ 2 ∷ 2 ∷ [])
+    ∷ []
+
+-- refusals, after a frame at 100
 -- the number of a frame with its time and draw, the time after it and the bytes sent, by the transponder and as told
 abbrev judged : ℕ → ℕ → List ℕ → List ℕ → Row
 judged time draw f paper =
@@ -223,17 +240,23 @@ refusals =
     -- equal times are taken; a time before the last is 15 and does not move it
     judged 100 0 (asking 0 0 0 0) (0 ∷ 100 ∷ 7 ∷ [])
     ∷ judged 99 0 (asking 0 0 0 0) (15 ∷ 100 ∷ 0 ∷ [])
-    -- a draw above 15 is 2 for any frame, and 13 bytes are 1
-    ∷ judged 200 16 (asking 0 0 0 0) (2 ∷ 100 ∷ 0 ∷ [])
+    -- a draw above 15 is 2 for any frame, before 15
+    ∷ judged 200 15 (asking 0 0 0 0) (0 ∷ 200 ∷ 7 ∷ [])
+    ∷ judged 99 16 (asking 0 0 0 0) (2 ∷ 100 ∷ 0 ∷ [])
+    -- bytes neither 7 nor 14 are 1, before both
     ∷ judged 99 16 (replicate 13 0) (1 ∷ 100 ∷ 0 ∷ [])
+    ∷ judged 200 0 (replicate 6 0) (1 ∷ 100 ∷ 0 ∷ [])
+    ∷ judged 200 0 (replicate 8 0) (1 ∷ 100 ∷ 0 ∷ [])
+    ∷ judged 200 0 (replicate 15 0) (1 ∷ 100 ∷ 0 ∷ [])
     -- a frame for another address, of another format or of the wrong length for its format only moves time
     ∷ judged 200 0 (frames.selective 4 0 0 0 0 0 0x484FDF) (0 ∷ 200 ∷ 0 ∷ [])
     ∷ judged 200 0 (replicate 7 0) (0 ∷ 200 ∷ 0 ∷ [])
     ∷ judged 200 0 (asking 0 0 0 0 ++ replicate 7 0) (0 ∷ 200 ∷ 0 ∷ [])
-    -- the ninth message is 6, and one of 6 bytes is 1
+    -- the ninth message is 6, and one of 6 or 8 bytes is 1, before 6
     ∷ queued (two ++ (two ++ (two ++ two))) (seven 0) (seven-bytes 0 (omega arith)) 6
     ∷ queued (one ++ (two ++ (two ++ two))) (seven 0) (seven-bytes 0 (omega arith)) 0
-    ∷ queued [] (replicate 6 0) six-bytes 1
+    ∷ queued (two ++ (two ++ (two ++ two))) (replicate 6 0) six-bytes 1
+    ∷ queued [] (0 ∷ seven 0) eight-bytes 1
     ∷ []
 
 -- ---- "UF 4/20 draw AC, UF 5/21 draw ID; RR 16 and above draws the long form"
@@ -248,4 +271,4 @@ drawings =
 
 -- ---- all of them; proofs/Agreed.antt has the one claim
 abbrev pub listing : List Row
-listing = lockouts ++ (draws ++ (messages ++ (closeouts ++ (refusals ++ drawings))))
+listing = lockouts ++ (draws ++ (messages ++ (closeouts ++ (makings ++ (refusals ++ drawings)))))

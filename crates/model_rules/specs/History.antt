@@ -2,7 +2,10 @@
 use Prim.Native.Nat.{ℕ}
 use mathlib.Core.List.{List, [], _∷_}
 use Rattle.parity_rules.specs.Messages.{AreBytes}
+use Rattle.lists.specs.Checks.{Check}
 use Rattle.model_rules.specs.declared.state.Made.{Made}
+use Rattle.model_rules.specs.declared.state.Queued.{Queued}
+use Rattle.model_rules.specs.declared.state.Took.{Took}
 use Rattle.model_rules.specs.declared.state.Transponder.{Transponder}
 use Rattle.model_rules.specs.Calls.{making, queuing, taking}
 
@@ -24,21 +27,27 @@ pub data Call : Type 0 where
   take : ℕ → ℕ → List ℕ → Call
 
 -- the number that a call is given, and the transponder that it leaves
-pub record Answer : Type 0 where
+pub record Afterwards : Type 0 where
   pub number : ℕ
   pub transponder : Transponder
 
+abbrev pub afterQueuing : Queued → Afterwards
+afterQueuing r = record { number = r .number; transponder = r .transponder }
+
+abbrev pub afterTaking : Took → Afterwards
+afterTaking r = record { number = r .number; transponder = r .transponder }
+
 -- "a refusal returns its number alone and changes nothing"
-abbrev pub refused : ℕ → Transponder → Answer
-refused n t = record { number = n; transponder = t }
+abbrev pub unchangedBy : Transponder → Check → Afterwards
+unchangedBy t c = record { number = c .number; transponder = t }
 
 -- "0 means done"
-abbrev pub done : Transponder → Answer
-done t = record { number = 0; transponder = t }
+abbrev pub leaving : Transponder → Afterwards
+leaving t = record { number = 0; transponder = t }
 
-abbrev pub answer : Transponder → Call → Answer
-answer t (queue m b) = record { number = queuing t m .number; transponder = queuing t m .transponder }
-answer t (take time draw f) = record { number = taking t time draw f .number; transponder = taking t time draw f .transponder }
+abbrev pub answer : Transponder → Call → Afterwards
+answer t (queue m b) = afterQueuing (queuing t m)
+answer t (take time draw f) = afterTaking (taking t time draw f)
 
 -- the transponder that a history has made of a new one
 unfoldable pub after : Aircraft → List Call → Transponder

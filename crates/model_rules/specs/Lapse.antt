@@ -12,7 +12,7 @@ use Rattle.model_rules.specs.declared.state.Timers.{Timers}
 use Rattle.model_rules.specs.declared.state.Holder.{Holder}
 use Rattle.model_rules.specs.declared.state.Holder.the-variants.{Nobody, Held}
 use Rattle.model_rules.specs.declared.state.Transponder.{Transponder}
-use Rattle.model_rules.specs.State.{keeping}
+use Rattle.model_rules.specs.State.{withTime, withTimers, withHolder}
 
 -- how long a lock and a reservation last, in tenths of a second
 abbrev pub lasting : ℕ
@@ -38,4 +38,4 @@ holderAfter now (Held ii s) = pick (isOver now s) Nobody (Held ii s)
 
 -- the transponder at a time: the one that only time has changed
 unfoldable pub lapse : ℕ → Transponder → Transponder
-lapse now t = keeping t now (timersAfter now (t .timers)) (holderAfter now (t .holder)) (t .messages)
+lapse now t = withHolder (holderAfter now (t .holder)) (withTimers (timersAfter now (t .timers)) (withTime now t))

@@ -4,10 +4,11 @@ use Prim.Native.Nat.{ℕ, _+_}
 use mathlib.Core.Bool.{Bool, false, _&&_, _||_, not}
 use mathlib.Core.List.{List, _∷_}
 use lib.Dec.{eqb, leb, ltb}
-use lib.ListN.{length, getD}
 use Rattle.lists.specs.Lists.{pick}
 use Rattle.frames_rules.specs.Building.{aReply, anAllCallReply}
-use Rattle.frames_rules.specs.Reading.{readUp}
+use Rattle.frames_rules.specs.Interrogations.{upOf}
+use Rattle.frames_rules.specs.declared.answers.Up.{Up}
+use Rattle.frames_rules.specs.declared.answers.Up.the-variants as up
 use Rattle.frames_rules.specs.Shared.{codeFor, shortReply}
 use Rattle.frames_rules.specs.declared.answers.Interrogator.{Interrogator}
 use Rattle.frames_rules.specs.declared.answers.Interrogator.the-variants.{II, SI, Nobody}
@@ -16,7 +17,7 @@ use Rattle.model_rules.specs.Replies.{silence, sentBytes, drawsBelow}
 use Rattle.model_rules.specs.Calls.{laidOver}
 use Rattle.model_rules.specs.History.{Aircraft, Call, take}
 use Rattle.model_rules.specs.Story.{Told, heldBy, showsDR, showsUM, showsMB}
-use Rattle.model_rules.specs.Seen.{isFor, numberOn, told, lastCommand, lockedSince}
+use Rattle.model_rules.specs.Seen.{numberOn, told, lastCommand, lockedSince}
 
 -- ---- selective interrogations
 -- "RR 16 and above draws the long form"
@@ -33,10 +34,6 @@ replyOn a s uf rr di sd =
     aReply (formatDrawn uf rr) (a .fs) (showsDR (s .messages)) (showsUM di sd (heldBy s)) (valueFor uf a) (showsMB rr di sd (s .messages)) (a .address)
 
 -- ---- all-calls
--- whether the fields of a frame are those of an all-call: five, the remainder last
-abbrev pub isAllCall : List ℕ → Bool
-isAllCall vs = eqb (length vs) 5 && laidOver 0xFFFFFF (getD vs 4 0)
-
 -- "when not locked to its code and draw < 16/2^p"; PR 8 and above "ignores lockout"
 abbrev pub answersAt : Aircraft → List Call → ℕ → ℕ → ℕ → Interrogator → Bool
 answersAt a cs time draw pr c = (leb 8 pr || not (lockedSince time (lastCommand a c cs))) && ltb draw (drawsBelow pr)
@@ -52,13 +49,14 @@ abbrev pub callOn : Aircraft → List Call → ℕ → ℕ → ℕ → ℕ → �
 callOn a cs time draw pr ic cl = pick (answersTo a cs time draw pr (codeFor cl ic)) (sentBytes (anAllCallReply (a .ca) (a .address) cl ic)) silence
 
 -- ---- every frame, after a history
--- by its fields: those of UF 4, 5, 20 or 21 for this aircraft, of an all-call, or of neither
-abbrev pub sentOn : Aircraft → List Call → ℕ → ℕ → List ℕ → List ℕ → Sent
-sentOn a cs time draw f vs =
-    pick (isFor (a .address) vs)
-    (sentBytes (replyOn a (told a (take time draw f ∷ cs)) (getD vs 0 0) (getD vs 2 0) (getD vs 3 0) (getD vs 4 0)))
-    (pick (isAllCall vs) (callOn a cs time draw (getD vs 1 0) (getD vs 2 0) (getD vs 3 0)) silence)
+-- by what it is: a selective interrogation for this aircraft, an all-call for every aircraft, or neither; first the story after it
+abbrev pub sentOn : Aircraft → Told → List Call → ℕ → ℕ → Up → Sent
+sentOn a s cs time draw (up.Selective uf pc rr di sd ma remainder) = pick (laidOver (a .address) remainder) (sentBytes (replyOn a s uf rr di sd)) silence
+sentOn a s cs time draw (up.AllCall pr ic cl remainder) = pick (laidOver 0xFFFFFF remainder) (callOn a cs time draw pr ic cl) silence
+sentOn a s cs time draw up.Length = silence
+sentOn a s cs time draw up.Format = silence
 
 -- a frame that is refused, for another address, of another format or of the wrong length gets nothing
 unfoldable pub sentTo : Aircraft → List Call → ℕ → ℕ → List ℕ → Sent
-sentTo a cs time draw f = pick (eqb (numberOn (told a cs) (take time draw f)) 0) (sentOn a cs time draw f (readUp f .values)) silence
+sentTo a cs time draw f =
+    pick (eqb (numberOn (told a cs) (take time draw f)) 0) (sentOn a (told a (take time draw f ∷ cs)) cs time draw (upOf f)) silence

@@ -6,7 +6,7 @@ use lib.Dec.{eqb, leb, ltb}
 use lib.ListN.{length, replicate}
 use Rattle.lists.specs.Lists.{pick, over}
 use Rattle.frames_rules.specs.Fields.{bitsTo, valueAt}
-use Rattle.frames_rules.specs.Answers.{Outcome}
+use Rattle.frames_rules.specs.Answers.{Building}
 use Rattle.frames_rules.specs.Building.{replying, allCallReplying}
 use Rattle.frames_rules.specs.Shared.{codeFor}
 use Rattle.frames_rules.specs.Formats.{lengthOf}
@@ -33,7 +33,7 @@ abbrev pub sentBytes : List ℕ → Sent
 sentBytes b = record { length = length b; bytes = over b (replicate 14 0) }
 
 -- a frame that could be built; a transponder that no call has made may have numbers that no frame can carry, and is silent
-unfoldable pub sending : Outcome → Sent
+unfoldable pub sending : Building → Sent
 sending o = pick (eqb (o .number) 0) (sentBytes (o .output)) silence
 
 -- ---- Comm-B in a reply

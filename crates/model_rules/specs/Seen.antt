@@ -4,11 +4,12 @@ use Prim.Native.Nat.{ℕ, _≤_}
 use mathlib.Core.Bool.{Bool, false, _&&_, _||_}
 use mathlib.Core.List.{List, [], _∷_}
 use lib.Dec.{eqb}
-use lib.ListN.{length, getD}
 use Rattle.lists.specs.Lists.{pick}
 use Rattle.lists.specs.Checks.{given}
 use Rattle.frames_rules.specs.Bytes.{numberOfBytes}
-use Rattle.frames_rules.specs.Reading.{readUp}
+use Rattle.frames_rules.specs.Interrogations.{upOf}
+use Rattle.frames_rules.specs.declared.answers.Up.{Up}
+use Rattle.frames_rules.specs.declared.answers.Up.the-variants as up
 use Rattle.frames_rules.specs.declared.answers.Interrogator.{Interrogator}
 use Rattle.frames_rules.specs.declared.answers.Interrogator.the-variants.{II, SI, Nobody}
 use Rattle.model_rules.specs.declared.state.Lock.{Lock}
@@ -16,20 +17,21 @@ use Rattle.model_rules.specs.declared.state.Lock.the-variants.{Never, Si
 use Rattle.model_rules.specs.Lockout.{commandOfPC, commandOfSD}
 use Rattle.model_rules.specs.Calls.{laidOver}
 use Rattle.model_rules.specs.History.{Aircraft, Call, queue, take}
-use Rattle.model_rules.specs.Story.{Told, untold, lasts, withMessage, moved, framed}
+use Rattle.model_rules.specs.Story.{Told, untold, lasts, withMessage, moved, reserving, closing}
 use Rattle.model_rules.specs.Numbers.{checks}
 
--- whether the fields of a frame are those of a selective interrogation for an address: seven, the remainder last
-abbrev pub isFor : ℕ → List ℕ → Bool
-isFor address vs = eqb (length vs) 7 && laidOver address (getD vs 6 0)
-
 -- ---- the story of a history
--- after one call more that is not refused: a message waits; a frame moves time, and one for this aircraft also reserves and closes out
+-- a selective interrogation for this address reserves and closes out, in this order, and nothing else does
+abbrev pub interrogates : ℕ → Up → Told → Told
+interrogates address (up.Selective uf pc rr di sd ma remainder) s = pick (laidOver address remainder) (closing pc di sd (reserving di sd s)) s
+interrogates address (up.AllCall pr ic cl remainder) s = s
+interrogates address up.Length s = s
+interrogates address up.Format s = s
+
+-- after one call more that is not refused: a message waits; a frame moves time, and may interrogate
 abbrev pub toldBy : Aircraft → Call → Told → Told
 toldBy a (queue m b) s = withMessage (numberOfBytes m) s
-toldBy a (take time draw f) s =
-    let vs = readUp f .values in
-    pick (isFor (a .address) vs) (framed vs (moved time s)) (moved time s)
+toldBy a (take time draw f) s = interrogates (a .address) (upOf f) (moved time s)
 
 -- after one call more with its number: "a refusal .. changes nothing"
 abbrev pub toldAfter : Aircraft → Call → ℕ → Told → Told
@@ -65,18 +67,21 @@ isCode Nobody (II m) = false
 isCode Nobody (SI m) = false
 isCode Nobody Nobody = false
 
--- whether its PC, or its DI and SD, command a code
-abbrev pub commandsIn : Interrogator → List ℕ → Bool
-commandsIn c vs = isCode c (commandOfPC (getD vs 1 0)) || isCode c (commandOfSD (getD vs 3 0) (getD vs 4 0))
+-- whether PC, or DI and SD, command a code
+abbrev pub commandsIn : Interrogator → ℕ → ℕ → ℕ → Bool
+commandsIn c pc di sd = isCode c (commandOfPC pc) || isCode c (commandOfSD di sd)
 
--- whether a frame is for this aircraft and commands a code
-abbrev pub commands : Aircraft → Interrogator → List ℕ → Bool
-commands a c f = isFor (a .address) (readUp f .values) && commandsIn c (readUp f .values)
+-- whether a frame is a selective interrogation for this address that commands a code
+abbrev pub commands : ℕ → Interrogator → Up → Bool
+commands address c (up.Selective uf pc rr di sd ma remainder) = laidOver address remainder && commandsIn c pc di sd
+commands address c (up.AllCall pr ic cl remainder) = false
+commands address c up.Length = false
+commands address c up.Format = false
 
 -- the time of the last command of a code, after one call more with its number: a frame that is not refused may be one
 abbrev pub commandAfter : Aircraft → Interrogator → Call → ℕ → Lock → Lock
 commandAfter a c (queue m b) number old = old
-commandAfter a c (take time draw f) number old = pick (eqb number 0 && commands a c f) (Since time) old
+commandAfter a c (take time draw f) number old = pick (eqb number 0 && commands (a .address) c (upOf f)) (Since time) old
 
 unfoldable pub lastCommand : Aircraft → Interrogator → List Call → Lock
 lastCommand a c [] = Never

@@ -50,7 +50,8 @@ messagesWith v m = record { list = over (waiting m ++ (v ∷ [])) (m .list); n =
 unfoldable pub messagesAfter : Messages → Messages
 messagesAfter m = pick (waits m) (record { list = drop 1 (m .list) ++ (0 ∷ []); n = length (waiting m) - 1 }) m
 
--- ---- what a transponder was made with stays; its time, timers, holder and messages are these
+-- ---- a transponder with one of its parts changed; what it was made with stays
+-- the one place that names every part
 abbrev pub keeping : Transponder → ℕ → Timers → Holder → Messages → Transponder
 keeping t now timers holder messages =
     record {
@@ -64,6 +65,9 @@ keeping t now timers holder messages =
       holder = holder;
       messages = messages;
     }
+
+abbrev pub withTime : ℕ → Transponder → Transponder
+withTime x t = keeping t x (t .timers) (t .holder) (t .messages)
 
 abbrev pub withTimers : Timers → Transponder → Transponder
 withTimers x t = keeping t (t .time) x (t .holder) (t .messages)

@@ -4,7 +4,7 @@ use Prim.Native.Nat.{ℕ, _+_, _-_, _*_}
 use mathlib.Core.Bool.{Bool, false, _&&_}
 use mathlib.Core.List.{List, [], _∷_, _++_}
 use lib.Dec.{eqb, leb, ltb}
-use lib.ListN.{drop, getD}
+use lib.ListN.{drop}
 use Rattle.lists.specs.Lists.{pick}
 use Rattle.model_rules.specs.declared.state.Holder.{Holder}
 use Rattle.model_rules.specs.declared.state.Holder.the-variants.{Nobody, Held}
@@ -76,10 +76,6 @@ closed s = record { time = s .time; messages = drop 1 (s .messages); reserved = 
 -- "who holds is read once .. for both closeouts"
 unfoldable pub closing : ℕ → ℕ → ℕ → Told → Told
 closing pc di sd s = pick (closesOut pc di sd (heldBy s)) (closed s) s
-
--- a frame for this aircraft, by its fields UF, PC, RR, DI, SD: "reservation and closeout", in this order
-abbrev pub framed : List ℕ → Told → Told
-framed vs s = closing (getD vs 1 0) (getD vs 3 0) (getD vs 4 0) (reserving (getD vs 3 0) (getD vs 4 0) s)
 
 -- ---- what a reply shows
 -- "DR is 1 while a message waits, else 0"

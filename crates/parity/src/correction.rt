@@ -2,10 +2,11 @@
 ghost use mathlib.Core.Path.{_≡_};
 ghost use lib.ListN.{length};
 ghost use Prim.Native.Nat.{_≤_};
+ghost use Rattle.lists.specs.Checks.{checked};
 ghost use Rattle.parity_rules.specs.Messages.{bits};
-ghost use Rattle.parity_rules.specs.Answers.{said};
-ghost use Rattle.parity_rules.specs.Correction.{sizeOf, matching, flipped, byMatches, correction};
-ghost use Rattle.parity_rules.specs.Steps.{syndromesOf, back, first, Left};
+ghost use Rattle.parity_rules.specs.Answers.{fixSaid, notCorrected};
+ghost use Rattle.parity_rules.specs.Correction.{sizeOf, matching, first, flipped, flippedBy, matchChecks, correction};
+ghost use Rattle.parity_rules.specs.Steps.{syndromesOf, back, Left};
 use crate::division::remainder_of;
 use crate::lengths::sized;
 use crate::marks::gather;
@@ -41,10 +42,10 @@ fn rebuild(
     flips
 }
 
-// The outcome by how many subsets match, with the first of syns the syndromes of the marked bits.
+// What it comes to by how many subsets match, with the first of syns the syndromes of the marked bits.
 fn settle(msg: &[u8], marks: &[u8], syns: &[u32; 12], many: usize, want: u32, out: &mut [u8]) -> Fix
     requires { ⌜ (length (now marks) ≡ length (now msg)) × (length (now out) ≡ length (now msg)) × (length (now msg) ≤ 14) × (many ≤ 12) × (back many (now syns) ≡ syndromesOf (bits (now marks))) ⌝ }
-    ensures { λ r. ⌜ said r (now (out .exit)) ≡ byMatches (now (msg .entry)) (now (out .entry)) (matching want (bits (now (marks .entry)))) ⌝ }
+    ensures { λ r. ⌜ fixSaid r (now (out .exit)) ≡ checked (matchChecks (matching want (bits (now (marks .entry))))) (notCorrected (now (out .entry))) (flippedBy (now (msg .entry)) (matching want (bits (now (marks .entry))))) ⌝ }
 {
     let found = count(syns, many, want);
     if found == 0 {
@@ -58,7 +59,7 @@ fn settle(msg: &[u8], marks: &[u8], syns: &[u32; 12], many: usize, want: u32, ou
 
 // Flips the one subset of the marked bits that makes the remainder the overlay.
 pub fn correct(msg: &[u8], marks: &[u8], overlay: u32, limit: u32, out: &mut [u8]) -> Fix
-    ensures { λ r. ⌜ said r (now (out .exit)) ≡ correction (now (msg .entry)) (now (marks .entry)) overlay limit (now (out .entry)) ⌝ }
+    ensures { λ r. ⌜ fixSaid r (now (out .exit)) ≡ correction (now (msg .entry)) (now (marks .entry)) overlay limit (now (out .entry)) ⌝ }
 {
     if !sized(msg.len(), marks.len(), out.len()) {
         return Fix::Length;

@@ -3,10 +3,10 @@ ghost use mathlib.Core.Path.{_≡_};
 ghost use mathlib.Core.List.{[]};
 ghost use Prim.Native.Nat.{_<_};
 ghost use Rattle.parity_rules.specs.Messages.{bits, byteThen};
-ghost use Rattle.parity_rules.specs.Answers.{answered};
+ghost use Rattle.parity_rules.specs.Answers.{reckonedSaid};
 ghost use Rattle.parity_rules.specs.Division.{divide, remainderOf, remainderAnswer};
 ghost use Rattle.parity_rules.specs.Steps.{movedUp};
-use crate::lengths::whole;
+use crate::lengths::seven_or_fourteen;
 use parity_rules::Reckoned;
 
 // The byte h times x^24, reduced, with no table: x^24 leaves FFF409, and x^25 and the six powers after it 1C1B moved up.
@@ -42,9 +42,9 @@ pub(crate) fn remainder_of(msg: &[u8]) -> u32
 
 // The remainder of a message; Length unless it has 7 or 14 bytes.
 pub fn remainder(msg: &[u8]) -> Reckoned
-    ensures { λ r. ⌜ answered r ≡ remainderAnswer (now (msg .entry)) ⌝ }
+    ensures { λ r. ⌜ reckonedSaid r ≡ remainderAnswer (now (msg .entry)) ⌝ }
 {
-    if !whole(msg.len()) {
+    if !seven_or_fourteen(msg.len()) {
         return Reckoned::Length;
     }
     Reckoned::Is(remainder_of(msg))

@@ -1,11 +1,11 @@
 // The lengths that a message and its buffers may have.
 ghost use mathlib.Core.Path.{_≡_};
-ghost use Rattle.parity_rules.specs.Messages.{whole};
+ghost use Rattle.parity_rules.specs.Messages.{sevenOrFourteen};
 ghost use Rattle.parity_rules.specs.Correction.{sized};
 
 // Whether a number of bytes is that of a message.
-pub(crate) fn whole(n: usize) -> bool
-    ensures { λ r. ⌜ r ≡ whole n ⌝ }
+pub fn seven_or_fourteen(n: usize) -> bool
+    ensures { λ r. ⌜ r ≡ sevenOrFourteen n ⌝ }
 {
     if n == 7 {
         return true;
@@ -23,5 +23,5 @@ pub fn sized(n: usize, marks: usize, out: usize) -> bool
     if out != n {
         return false;
     }
-    whole(n)
+    seven_or_fourteen(n)
 }

@@ -9,6 +9,7 @@ mod syndrome;
 
 pub use correction::correct;
 pub use division::remainder;
+pub use lengths::seven_or_fourteen;
 pub use lengths::sized;
 pub use overlay::code_overlay;
 pub use overlay::uplink_overlay;

@@ -4,8 +4,8 @@ ghost use mathlib.Core.List.{[]};
 ghost use lib.ListN.{length, drop};
 ghost use Prim.Native.Nat.{_*_, _<_, _≤_};
 ghost use Rattle.parity_rules.specs.Messages.{bits};
-ghost use Rattle.parity_rules.specs.Correction.{matching};
-ghost use Rattle.parity_rules.specs.Steps.{ways, back, first, Left, Chosen, ChosenByte};
+ghost use Rattle.parity_rules.specs.Correction.{matching, first};
+ghost use Rattle.parity_rules.specs.Steps.{ways, back, Left, Chosen, ChosenByte};
 use crate::marks::bit;
 
 // With no marked bit left: one way if nothing is left to match, else none.

@@ -8,8 +8,8 @@ use lib.Bits.{bitXor}
 use lib.ListN.{length, drop, getD, length-map}
 use lib.Seq.{drop-cons}
 use Rattle.parity_rules.specs.Division.{syndrome}
-use Rattle.parity_rules.specs.Correction.{matching}
-use Rattle.parity_rules.specs.Steps.{syndromesOf, back, ways, Left, Chosen, first}
+use Rattle.parity_rules.specs.Correction.{matching, first}
+use Rattle.parity_rules.specs.Steps.{syndromesOf, back, ways, Left, Chosen}
 use Rattle.parity_rules.proofs.Match.{matching-plain, matching-mark, count-law}
 
 -- an unmarked place
@@ -82,7 +82,8 @@ module _ (ms syns : List ℕ) (i k want : ℕ) (s : List ℕ) (h : i < length ms
 
     pub mark-leave : (ways (bitXor want (getD syns (k - 1) 0)) (back (k - 1) syns) ≡ 1 → ⊥) → Chosen ms syns i want s 0 (k - 1) want
     mark-leave e =
-        let j = join-one (matching (bitXor want (getD syns (k - 1) 0)) (drop (i + 1) ms)) (matching want (drop (i + 1) ms)) s split .1 (λ q. e (sym (counted _) ∙ q)) in
+        let j = join-one (matching (bitXor want (getD syns (k - 1) 0)) (drop (i + 1) ms)) (matching want (drop (i + 1) ms)) s split .1
+        (λ q. e (sym (counted _) ∙ q)) in
         record { small = omega arith; head = j .0; left = record { few = omega (arith, l .few); only = j .1; rest = marked z .4 } }
 
 -- the one match is the first of the matches

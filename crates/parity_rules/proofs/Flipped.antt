@@ -16,7 +16,8 @@ use Rattle.parity_rules.proofs.Linear.{byte-value, byte-bits}
 use Rattle.parity_rules.proofs.Bits.{bits-length}
 
 -- ---- the places where two messages differ, flipped, make the one of the other
-spelled-xor : (xs ys : List ℕ) → AreBits xs → AreBits ys → length xs ≡ length ys → (p q : ℕ) → spelled (bitXor p q) (xorBits xs ys) ≡ bitXor (spelled p xs) (spelled q ys)
+spelled-xor : (xs ys : List ℕ) → AreBits xs → AreBits ys → length xs ≡ length ys → (p q : ℕ)
+    → spelled (bitXor p q) (xorBits xs ys) ≡ bitXor (spelled p xs) (spelled q ys)
 unfolding All xorBits
 spelled-xor [] [] hx hy e p q = refl
 spelled-xor [] (y ∷ ys) hx hy e p q = absurd (omega arith)
@@ -50,7 +51,8 @@ digit : (b v k : ℕ) → bitXor b v / 2 ^ k % 2 ≡ bitXor (b / 2 ^ k % 2) (v /
 digit b v k = ap (λ (n : ℕ). n % 2) (xor-shr b v k) ∙ xor-mod (b / 2 ^ k) (v / 2 ^ k) 1
 
 byte-xor : (b x0 x1 x2 x3 x4 x5 x6 x7 : ℕ) → x0 < 2 → x1 < 2 → x2 < 2 → x3 < 2 → x4 < 2 → x5 < 2 → x6 < 2 → x7 < 2 → (r : List ℕ)
-    → byteThen (bitXor b (spelled 0 (x0 ∷ x1 ∷ x2 ∷ x3 ∷ x4 ∷ x5 ∷ x6 ∷ x7 ∷ []))) r ≡ bitXor (b / 128 % 2) x0 ∷ bitXor (b / 64 % 2) x1 ∷ bitXor (b / 32 % 2) x2 ∷ bitXor (b / 16 % 2) x3 ∷ bitXor (b / 8 % 2) x4 ∷ bitXor (b / 4 % 2) x5 ∷ bitXor (b / 2 % 2) x6 ∷ bitXor (b % 2) x7 ∷ r
+    → byteThen (bitXor b (spelled 0 (x0 ∷ x1 ∷ x2 ∷ x3 ∷ x4 ∷ x5 ∷ x6 ∷ x7 ∷ []))) r ≡ bitXor (b / 128 % 2) x0 ∷ bitXor (b / 64 % 2) x1 ∷ bitXor (b / 32 % 2)
+    x2 ∷ bitXor (b / 16 % 2) x3 ∷ bitXor (b / 8 % 2) x4 ∷ bitXor (b / 4 % 2) x5 ∷ bitXor (b / 2 % 2) x6 ∷ bitXor (b % 2) x7 ∷ r
 byte-xor b x0 x1 x2 x3 x4 x5 x6 x7 h0 h1 h2 h3 h4 h5 h6 h7 r =
     let v : ℕ = spelled 0 (x0 ∷ x1 ∷ x2 ∷ x3 ∷ x4 ∷ x5 ∷ x6 ∷ x7 ∷ []) in
     let e0 : v / 128 % 2 ≡ x0 = omega arith in
@@ -84,8 +86,10 @@ flipped-bits (b ∷ msg) (x0 ∷ x1 ∷ x2 ∷ x3 ∷ x4 ∷ []) h e = absurd (o
 flipped-bits (b ∷ msg) (x0 ∷ x1 ∷ x2 ∷ x3 ∷ x4 ∷ x5 ∷ []) h e = absurd (omega arith)
 flipped-bits (b ∷ msg) (x0 ∷ x1 ∷ x2 ∷ x3 ∷ x4 ∷ x5 ∷ x6 ∷ []) h e = absurd (omega arith)
 flipped-bits (b ∷ msg) (x0 ∷ x1 ∷ x2 ∷ x3 ∷ x4 ∷ x5 ∷ x6 ∷ x7 ∷ s) h e =
-    byte-xor b x0 x1 x2 x3 x4 x5 x6 x7 (h .0) (h .1 .0) (h .1 .1 .0) (h .1 .1 .1 .0) (h .1 .1 .1 .1 .0) (h .1 .1 .1 .1 .1 .0) (h .1 .1 .1 .1 .1 .1 .0) (h .1 .1 .1 .1 .1 .1 .1 .0) (bits (flipped msg s))
-    ∙ cons8 _ _ _ _ _ _ _ _ _ _ _ _ _ _ _ _ (bits (flipped msg s)) (xorBits (bits msg) s) refl refl refl refl refl refl refl refl (flipped-bits msg s (h .1 .1 .1 .1 .1 .1 .1 .1) (omega arith))
+    byte-xor b x0 x1 x2 x3 x4 x5 x6 x7 (h .0) (h .1 .0) (h .1 .1 .0) (h .1 .1 .1 .0) (h .1 .1 .1 .1 .0) (h .1 .1 .1 .1 .1 .0) (h .1 .1 .1 .1 .1 .1 .0)
+    (h .1 .1 .1 .1 .1 .1 .1 .0) (bits (flipped msg s))
+    ∙ cons8 _ _ _ _ _ _ _ _ _ _ _ _ _ _ _ _ (bits (flipped msg s)) (xorBits (bits msg) s) refl refl refl refl refl refl refl refl
+    (flipped-bits msg s (h .1 .1 .1 .1 .1 .1 .1 .1) (omega arith))
 
 -- ---- the places flipped are the places where the two differ
 xor-twice : (xs ys : List ℕ) → length ys ≡ length xs → xorBits xs (xorBits xs ys) ≡ ys

@@ -134,7 +134,8 @@ unfolding All subsets
 subsets-apart [] = (tt, tt)
 subsets-apart (zero ∷ ms) = apart-map 0 (subsets ms) (subsets-apart ms)
 subsets-apart (suc m ∷ ms) =
-    apart-append (map (λ s. 1 ∷ s) (subsets ms)) (map (λ s. 0 ∷ s) (subsets ms)) (apart-map 1 (subsets ms) (subsets-apart ms)) (apart-map 0 (subsets ms) (subsets-apart ms)) (cross (subsets ms) (subsets ms))
+    apart-append (map (λ s. 1 ∷ s) (subsets ms)) (map (λ s. 0 ∷ s) (subsets ms)) (apart-map 1 (subsets ms) (subsets-apart ms))
+    (apart-map 0 (subsets ms) (subsets-apart ms)) (cross (subsets ms) (subsets ms))
 
 kept-apart : (p : List ℕ → Bool) (r : List (List ℕ)) → Apart r → Apart (filter p r)
 unfolding filter

@@ -66,6 +66,14 @@ gathered-next ms syns syns′ n k many many′ b e h eb g w =
 pub gathered-all : (ms syns : List ℕ) (n k many : ℕ) → n ≤ k → Gathered (drop (n - k) ms) many syns → Gathered ms many syns
 gathered-all ms syns n k many h g = let z : n - k ≡ 0 = omega arith in rw z at g
 
+-- all are kept where there are at most as many as a limit of 12
+module _ (ms syns : List ℕ) (many limit : ℕ) (g : Gathered ms many syns) (h : many ≤ limit) (l : limit ≤ 12) where
+  pub few-marks : many ≤ 12
+  few-marks = omega arith
+
+  pub kept-few : back many syns ≡ syndromesOf ms
+  kept-few = g .kept few-marks
+
 below : (n k v : ℕ) (l : List ℕ) → n ≤ k → back n (set l k v) ≡ back n l
 unfolding back
 below zero k v l h = refl

@@ -7,10 +7,13 @@ use native.Mathlib.Omega.{arith}
 use lib.Bits.{bitXor, xor-zero-r}
 use lib.ListN.{length}
 use borrow.Author.Tests.{lt-ltb, le-leb}
+use Rattle.lists.specs.Answers.{refusedBy}
+use Rattle.lists.proofs.Tests.{and-yes}
+use Rattle.lists.proofs.Checks.{all, end, not-off}
 use Rattle.parity_rules.specs.declared.answers.Reckoned.{Reckoned}
 use Rattle.parity_rules.specs.declared.answers.Reckoned.the-variants.{Is}
-use Rattle.parity_rules.specs.Messages.{bits, byteThen, whole, xorBits}
-use Rattle.parity_rules.specs.Answers.{answered}
+use Rattle.parity_rules.specs.Messages.{bits, byteThen, sevenOrFourteen, xorBits}
+use Rattle.parity_rules.specs.Answers.{reckonedSaid}
 use Rattle.parity_rules.specs.Division.{shiftIn, divide, remainderOf, remainderAnswer, syndrome, syndromeOfBit}
 use Rattle.parity_rules.specs.Overlays.{lowBits, times, overlayOf, uplinkOverlay, codeOverlay}
 use Rattle.parity_rules.proofs.Bits.{bits-are, bits-append}
@@ -70,7 +73,8 @@ parity-over s a b c ha hb hc =
     let r = remainderOf (bits s) in
     front s a b c
     ∙ ap₂ divide (sym (xor-zero-r r)) (sym (nothing a b c))
-    ∙ divide-xor (bits (0 ∷ 0 ∷ 0 ∷ [])) (bits (a ∷ b ∷ c ∷ [])) (bits-are (0 ∷ 0 ∷ 0 ∷ [])) (bits-are (a ∷ b ∷ c ∷ [])) (same-length a b c) r 0 (remainder-lt s) (omega arith)
+    ∙ divide-xor (bits (0 ∷ 0 ∷ 0 ∷ [])) (bits (a ∷ b ∷ c ∷ [])) (bits-are (0 ∷ 0 ∷ 0 ∷ [])) (bits-are (a ∷ b ∷ c ∷ [])) (same-length a b c) r 0
+    (remainder-lt s) (omega arith)
     ∙ ap₂ bitXor (sym (front s 0 0 0)) (three a b c ha hb hc)
 
 -- ---- an uplink overlay has 24 bits
@@ -79,11 +83,16 @@ unfolding overlayOf
 overlay-lt address = let h : times 0 (lowBits 24 address) < 2 ^ 48 = product-lt 24 address 0 (omega arith) (omega arith) in omega arith
 
 -- ---- what a call that was not refused says: its answer is the number itself
-pub remainder-is : (r : Reckoned) (msg : List ℕ) → whole (length msg) ≡ true → answered r ≡ remainderAnswer msg → r ≡ Is (remainderOf (bits msg))
-remainder-is r msg h e = reckoned-one r (Is (remainderOf (bits msg))) (e ∙ rw h)
+module _ (r : Reckoned) where
+  pub remainder-is : (msg : List ℕ) → sevenOrFourteen (length msg) ≡ true → reckonedSaid r ≡ remainderAnswer msg → r ≡ Is (remainderOf (bits msg))
+  unfolding remainderAnswer
+  remainder-is msg h e = reckoned-one r (Is (remainderOf (bits msg))) (e ∙ sym (end refusedBy _ all (not-off _ h, tt)))
 
-pub uplink-is : (r : Reckoned) (address : ℕ) → address < 16777216 → answered r ≡ uplinkOverlay address → r ≡ Is (overlayOf address)
-uplink-is r address h e = reckoned-one r (Is (overlayOf address)) (e ∙ rw (lt-ltb address 16777216 h))
+  pub uplink-is : (address : ℕ) → address < 16777216 → reckonedSaid r ≡ uplinkOverlay address → r ≡ Is (overlayOf address)
+  unfolding uplinkOverlay
+  uplink-is address h e = reckoned-one r (Is (overlayOf address)) (e ∙ sym (end refusedBy _ all (not-off _ (lt-ltb address 16777216 h), tt)))
 
-pub code-is : (r : Reckoned) (cl ic : ℕ) → cl ≤ 7 → ic ≤ 15 → answered r ≡ codeOverlay cl ic → r ≡ Is (16 * cl + ic)
-code-is r cl ic hc hi e = reckoned-one r (Is (16 * cl + ic)) (e ∙ rw (le-leb cl 7 hc, le-leb ic 15 hi))
+  pub code-is : (cl ic : ℕ) → cl ≤ 7 → ic ≤ 15 → reckonedSaid r ≡ codeOverlay cl ic → r ≡ Is (16 * cl + ic)
+  unfolding codeOverlay
+  code-is cl ic hc hi e =
+      reckoned-one r (Is (16 * cl + ic)) (e ∙ sym (end refusedBy _ all (not-off _ (and-yes _ _ (le-leb cl 7 hc) (le-leb ic 15 hi)), tt)))

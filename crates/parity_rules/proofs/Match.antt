@@ -2,7 +2,7 @@
 use mathlib.Core.Path.{_≡_, refl, sym, ap, ap₂, _∙_}
 use mathlib.Core.Bool.{Bool, true, false}
 use mathlib.Core.List.{List, [], _∷_, _++_, map}
-use Prim.Native.Nat.{ℕ, zero, suc, _+_, _^_, _≤_}
+use Prim.Native.Nat.{ℕ, zero, suc, _+_, _^_, _≤_, _<_}
 use native.Mathlib.Nat.{pow-suc}
 use native.Mathlib.Omega.{arith}
 use lib.Bits.{bitXor, xor-comm}
@@ -11,11 +11,12 @@ use lib.ListN.{length, length-map, length-append}
 use borrow.Author.Tests.{eq-eqb, ne-eqb, eqb-true, eqb-false}
 use Rattle.lists.specs.Lists.{pick, filter, All}
 use Rattle.lists.proofs.Each.{all-image}
+use Rattle.lists.proofs.Checks.{tests}
 use Rattle.lists.proofs.Filter.{filter-append, filter-map}
 use Rattle.lists.proofs.Held.{all-append, all-map, all-of}
 use Rattle.parity_rules.specs.Division.{syndrome}
 use Rattle.parity_rules.specs.Correction.{subsets, xorOf, matching}
-use Rattle.parity_rules.specs.Steps.{syndromesOf, ways}
+use Rattle.parity_rules.specs.Steps.{syndromesOf, back, ways}
 use Rattle.lists.proofs.Xor.{xor-move}
 
 -- ---- two tests that say the same
@@ -36,7 +37,8 @@ eqb-move a x w =
 pub subsets-length : (ms : List ℕ) → All (λ s. length s ≡ length ms) (subsets ms)
 unfolding All subsets
 subsets-length [] = (refl, tt)
-subsets-length (zero ∷ ms) = all-image (λ s. 0 ∷ s) (λ s. length s ≡ length ms) (λ s. length s ≡ suc (length ms)) (λ s e. ap suc e) (subsets ms) (subsets-length ms)
+subsets-length (zero ∷ ms) =
+    all-image (λ s. 0 ∷ s) (λ s. length s ≡ length ms) (λ s. length s ≡ suc (length ms)) (λ s e. ap suc e) (subsets ms) (subsets-length ms)
 subsets-length (suc m ∷ ms) =
     all-append (λ s. length s ≡ suc (length ms)) (map (λ s. 1 ∷ s) (subsets ms)) (map (λ s. 0 ∷ s) (subsets ms))
     (all-image (λ s. 1 ∷ s) (λ s. length s ≡ length ms) (λ s. length s ≡ suc (length ms)) (λ s e. ap suc e) (subsets ms) (subsets-length ms))
@@ -78,7 +80,8 @@ pub count-law : (want : ℕ) (ms : List ℕ) → length (matching want ms) ≡ w
 unfolding ways syndromesOf
 count-law want [] = count-none want
 count-law want (zero ∷ ms) = rw (matching-plain want ms, length-map) (count-law want ms)
-count-law want (suc m ∷ ms) = rw (matching-mark want m ms) (simp (length-append, length-map) (ap₂ _+_ (count-law (bitXor want (syndrome (length ms))) ms) (count-law want ms)))
+count-law want (suc m ∷ ms) =
+    rw (matching-mark want m ms) (simp (length-append, length-map) (ap₂ _+_ (count-law (bitXor want (syndrome (length ms))) ms) (count-law want ms)))
 
 pick-le : (b : Bool) → pick b 1 0 ≤ 1
 pick-le true = omega arith
@@ -88,3 +91,25 @@ pub ways-le : (want : ℕ) (l : List ℕ) → ways want l ≤ 2 ^ length l
 unfolding ways
 ways-le want [] = pick-le (eqb want 0)
 ways-le want (s ∷ l) = omega (arith, ways-le (bitXor want s) l, ways-le want l, pow-suc 2 (length l))
+
+-- ---- how many match, from what a count gave
+module _ (want many : ℕ) (ms syns : List ℕ) {r : ℕ} (k : back many syns ≡ syndromesOf ms) (e : r ≡ ways want (back many syns)) where
+  counted : length (matching want ms) ≡ r
+  counted = count-law want ms ∙ ap (ways want) (sym k) ∙ sym e
+
+  pub none-found : r ≡ 0 → length (matching want ms) ≡ 0
+  none-found h = counted ∙ h
+
+  pub some-found : (r ≡ 0 → ⊥) → length (matching want ms) ≡ 0 → ⊥
+  some-found h q = h (sym counted ∙ q)
+
+  pub one-found : r ≡ 1 → length (matching want ms) ≡ 1
+  one-found h = counted ∙ h
+
+  pub at-most-one : r ≡ 1 → length (matching want ms) ≤ 1
+  at-most-one h = omega (arith, counted)
+
+  pub more-found : (r ≡ 0 → ⊥) → (r ≡ 1 → ⊥) → 1 < length (matching want ms)
+  more-found h l = omega (arith, counted)
+
+pub ruleset found = (tests, none-found, some-found, at-most-one, more-found)

@@ -2,59 +2,76 @@
 -- only and has the overlay as its remainder, and its flips are the places where the two differ; 12 says that there is no such
 -- message, and 13 that there are two.
 use mathlib.Core.Path.{_≡_, refl, sym, ap, _∙_, subst}
-use mathlib.Core.Bool.{Bool, true, false}
 use mathlib.Core.List.{List, [], _∷_}
 use Prim.Native.Nat.{ℕ, _*_}
 use native.Mathlib.Omega.{arith}
 use lib.Bits.{bitXor}
-use lib.Dec.{leb}
 use lib.ListN.{length}
-use Rattle.lists.specs.Lists.{pick}
+use borrow.Author.Tests.{not-false}
+use Rattle.lists.specs.Checks.{Check, checked, given}
+use Rattle.lists.proofs.Checks.{view, CameTo, was-refused, was-done, came-to, gave}
 use Rattle.lists.proofs.Xor.{xor-back}
 use Rattle.parity_rules.specs.declared.answers.Fix.the-variants.{Flips, NoMatch, Doubt}
 use Rattle.parity_rules.specs.Messages.{bits, xorBits, differing, AreBits, AreBytes}
-use Rattle.parity_rules.specs.Answers.{Outcome, said, refused}
+use Rattle.parity_rules.specs.Answers.{Correction, fixSaid, notCorrected}
 use Rattle.parity_rules.specs.Division.{remainderOf}
-use Rattle.parity_rules.specs.Correction.{sizeOf, xorOf, matching, sought, flipped, byMatches, sized, ranged, correction}
+use Rattle.parity_rules.specs.Correction.{sizeOf, xorOf, matching, sought, matchesOf, first, flipped, flippedBy, correctionChecks, correction}
 use Rattle.parity_rules.specs.Corrected.{AtMarks, Fitting, Corrected}
 use Rattle.parity_rules.proofs.Bits.{bits-length, bits-are}
 use Rattle.parity_rules.proofs.Linear.{divide-xor}
 use Rattle.parity_rules.proofs.Sum.{sum-is, xor-are}
-use Rattle.parity_rules.proofs.Judged.{sizes}
+use Rattle.parity_rules.proofs.Judged.{sizes, only-match, no-match, two-match}
 use Rattle.parity_rules.proofs.Flipped.{flipped-back, flipped-bits, flipped-differ, flipped-length, flipped-bytes}
 use Rattle.parity_rules.proofs.Found.{within-are, within-length, match-is, match-only, match-none, match-two}
 
--- ---- an outcome with another number than those of the checks goes by how many subsets match
-passed : (a b c : Bool) (o x : Outcome) (out : List ℕ) → (x .number ≡ 1 → ⊥) → (x .number ≡ 2 → ⊥) → (x .number ≡ 11 → ⊥)
-    → x ≡ pick a (pick b (pick c o (refused 11 out)) (refused 2 out)) (refused 1 out) → (a ≡ true) × (x ≡ o)
-passed true true true o x out h1 h2 h11 e = (refl, e)
-passed true true false o x out h1 h2 h11 e = absurd (h11 (ap (λ (y : Outcome). y .number) e))
-passed true false c o x out h1 h2 h11 e = absurd (h2 (ap (λ (y : Outcome). y .number) e))
-passed false b c o x out h1 h2 h11 e = absurd (h1 (ap (λ (y : Outcome). y .number) e))
-
-decided : (msg marks : List ℕ) (overlay limit : ℕ) (out : List ℕ) (x : Outcome) → (x .number ≡ 1 → ⊥) → (x .number ≡ 2 → ⊥) → (x .number ≡ 11 → ⊥)
-    → x ≡ correction msg marks overlay limit out → (length marks ≡ length msg) × (x ≡ byMatches msg out (matching (sought msg overlay) (bits marks)))
+-- ---- a correction that is taken: buffers of one length, and one match
+taken : (msg marks : List ℕ) (overlay limit : ℕ) (out out′ : List ℕ) (n : ℕ) → fixSaid (Flips n) out′ ≡ correction msg marks overlay limit out
+    → (length marks ≡ length msg) × ((s : List ℕ) × (matchesOf msg marks overlay ≡ s ∷ []) × (n ≡ sizeOf s) × (out′ ≡ flipped msg s))
 unfolding correction
-decided msg marks overlay limit out x h1 h2 h11 e =
-    let p = passed (sized (length msg) (length marks) (length out)) (ranged overlay limit) (leb (sizeOf (bits marks)) limit)
-    (byMatches msg out (matching (sought msg overlay) (bits marks))) x out h1 h2 h11 e in
-    (sizes (length msg) (length marks) (length out) (p .0) .0, p .1)
+taken msg marks overlay limit out out′ n e = go (checked cs (notCorrected out) d) e (came-to (notCorrected out) d cs refl)
+  where
+    cs : List Check
+    cs = correctionChecks msg marks overlay limit out
 
-one-match : (msg out out′ : List ℕ) (n : ℕ) (l : List (List ℕ)) → said (Flips n) out′ ≡ byMatches msg out l
-    → (s : List ℕ) × (l ≡ s ∷ []) × (n ≡ sizeOf s) × (out′ ≡ flipped msg s)
-one-match msg out out′ n [] e = absurd (omega (arith, ap (λ (x : Outcome). x .number) e))
-one-match msg out out′ n (s ∷ []) e = (s, refl, ap (λ (x : Outcome). x .flips) e, ap (λ (x : Outcome). x .output) e)
-one-match msg out out′ n (s ∷ t ∷ l) e = absurd (omega (arith, ap (λ (x : Outcome). x .number) e))
+    d : Correction
+    d = flippedBy msg (matchesOf msg marks overlay)
 
-none-match : (msg out out′ : List ℕ) (l : List (List ℕ)) → said NoMatch out′ ≡ byMatches msg out l → l ≡ []
-none-match msg out out′ [] e = refl
-none-match msg out out′ (s ∷ []) e = absurd (omega (arith, ap (λ (x : Outcome). x .number) e))
-none-match msg out out′ (s ∷ t ∷ l) e = absurd (omega (arith, ap (λ (x : Outcome). x .number) e))
+    go : (x : Correction) → fixSaid (Flips n) out′ ≡ x → CameTo cs (notCorrected out) d x
+        → (length marks ≡ length msg) × ((s : List ℕ) × (matchesOf msg marks overlay ≡ s ∷ []) × (n ≡ sizeOf s) × (out′ ≡ flipped msg s))
+    go x e (was-refused c m k g q) = absurd (m (sym (ap (λ (y : Correction). y .number) (e ∙ q))))
+    go x e (was-done p g q) = (
+      sizes (length msg) (length marks) (length out) (not-false _ (p .off 1)) .0,
+      (
+        first (matchesOf msg marks overlay),
+        only-match (matchesOf msg marks overlay) (p .off 12) (p .off 13),
+        ap (λ (y : Correction). y .flips) (e ∙ q),
+        ap (λ (y : Correction). y .output) (e ∙ q),
+      ),
+    )
 
-two-match : (msg out out′ : List ℕ) (l : List (List ℕ)) → said Doubt out′ ≡ byMatches msg out l → (s : List ℕ) × (t : List ℕ) × (r : List (List ℕ)) × (l ≡ s ∷ t ∷ r)
-two-match msg out out′ [] e = absurd (omega (arith, ap (λ (x : Outcome). x .number) e))
-two-match msg out out′ (s ∷ []) e = absurd (omega (arith, ap (λ (x : Outcome). x .number) e))
-two-match msg out out′ (s ∷ t ∷ l) e = (s, t, l, refl)
+-- ---- a refusal gives the number that the table gives
+number-is : (msg marks : List ℕ) (overlay limit : ℕ) (out : List ℕ)
+    → correction msg marks overlay limit out .number ≡ given (correctionChecks msg marks overlay limit out)
+unfolding correction
+number-is msg marks overlay limit out =
+    view (λ (x : Correction). x .number) (correctionChecks msg marks overlay limit out) (notCorrected out) (flippedBy msg (matchesOf msg marks overlay))
+
+-- 12 and 13 are given where the lengths are right, by how many match
+none-found : (msg marks : List ℕ) (overlay limit : ℕ) (out out′ : List ℕ) → fixSaid NoMatch out′ ≡ correction msg marks overlay limit out
+    → (length marks ≡ length msg) × (matchesOf msg marks overlay ≡ [])
+unfolding correctionChecks
+none-found msg marks overlay limit out out′ e =
+    let y = gave 12 (λ z. omega arith) (correctionChecks msg marks overlay limit out) refl
+    (sym (number-is msg marks overlay limit out) ∙ sym (ap (λ (x : Correction). x .number) e)) in
+    (sizes (length msg) (length marks) (length out) (not-false _ (y .0 .0)) .0, no-match (matchesOf msg marks overlay) (y .1))
+
+two-found : (msg marks : List ℕ) (overlay limit : ℕ) (out out′ : List ℕ) → fixSaid Doubt out′ ≡ correction msg marks overlay limit out
+    → (length marks ≡ length msg) × ((s : List ℕ) × (t : List ℕ) × (r : List (List ℕ)) × (matchesOf msg marks overlay ≡ s ∷ t ∷ r))
+unfolding correctionChecks
+two-found msg marks overlay limit out out′ e =
+    let y = gave 13 (λ z. omega arith) (correctionChecks msg marks overlay limit out) refl
+    (sym (number-is msg marks overlay limit out) ∙ sym (ap (λ (x : Correction). x .number) e)) in
+    (sizes (length msg) (length marks) (length out) (not-false _ (y .0 .0)) .0, two-match (matchesOf msg marks overlay) (y .1))
 
 -- ---- the remainder of a message with some places flipped
 remainder-xor : (xs ys : List ℕ) → AreBits xs → AreBits ys → length xs ≡ length ys → remainderOf (xorBits xs ys) ≡ bitXor (remainderOf xs) (remainderOf ys)
@@ -94,10 +111,10 @@ module _ (msg marks : List ℕ) (overlay : ℕ) (same : length marks ≡ length 
 -- ---- the theorems, each from what `correct` promises of the answer
 module _ (msg marks : List ℕ) (overlay limit : ℕ) (out out′ : List ℕ) (bm : AreBytes msg) where
   -- a correction that is taken
-  pub corrected : (n : ℕ) → said (Flips n) out′ ≡ correction msg marks overlay limit out → Corrected msg marks overlay n out′
+  pub corrected : (n : ℕ) → fixSaid (Flips n) out′ ≡ correction msg marks overlay limit out → Corrected msg marks overlay n out′
   corrected n e =
-      let d = decided msg marks overlay limit out (said (Flips n) out′) (λ h. omega arith) (λ h. omega arith) (λ h. omega arith) e in
-      let m = one-match msg out out′ n (matching (sought msg overlay) (bits marks)) (d .1) in
+      let d = taken msg marks overlay limit out out′ n e in
+      let m = d .1 in
       let s = m .0 in
       let w = match-is (sought msg overlay) (bits marks) s [] (m .1) in
       let b = within-are s (bits marks) (bits-are marks) (w .0) in
@@ -110,18 +127,18 @@ module _ (msg marks : List ℕ) (overlay limit : ℕ) (out out′ : List ℕ) (b
       })
 
   -- refusal 12: no message fits
-  pub no-message : said NoMatch out′ ≡ correction msg marks overlay limit out → (o : List ℕ) → Fitting msg marks overlay o → ⊥
+  pub no-message : fixSaid NoMatch out′ ≡ correction msg marks overlay limit out → (o : List ℕ) → Fitting msg marks overlay o → ⊥
   no-message e o f =
-      let d = decided msg marks overlay limit out (said NoMatch out′) (λ h. omega arith) (λ h. omega arith) (λ h. omega arith) e in
-      match-none (sought msg overlay) (bits marks) (differing msg o) (bits-are marks) (none-match msg out out′ (matching (sought msg overlay) (bits marks)) (d .1))
+      let d = none-found msg marks overlay limit out out′ e in
+      match-none (sought msg overlay) (bits marks) (differing msg o) (bits-are marks) (d .1)
       (f .at-marks) (matched msg marks overlay (d .0) bm o f)
 
   -- refusal 13: two messages fit
-  pub two-messages : said Doubt out′ ≡ correction msg marks overlay limit out
+  pub two-messages : fixSaid Doubt out′ ≡ correction msg marks overlay limit out
       → (o : List ℕ) × (p : List ℕ) × Fitting msg marks overlay o × Fitting msg marks overlay p × (o ≡ p → ⊥)
   two-messages e =
-      let d = decided msg marks overlay limit out (said Doubt out′) (λ h. omega arith) (λ h. omega arith) (λ h. omega arith) e in
-      let m = two-match msg out out′ (matching (sought msg overlay) (bits marks)) (d .1) in
+      let d = two-found msg marks overlay limit out out′ e in
+      let m = d .1 in
       let w = match-two (sought msg overlay) (bits marks) (m .0) (m .1) (m .2) (m .3) in
       let own : (s : List ℕ) → AtMarks s (bits marks) → differing msg (flipped msg s) ≡ s =
       λ s h. flipped-differ msg s (within-are s (bits marks) (bits-are marks) h) (long msg marks overlay (d .0) bm s h) in (

@@ -11,8 +11,8 @@ use lib.Bits.{bitXor}
 use lib.ListN.{length, drop, take, getD, set, drop-of-length-le}
 use lib.Seq.{drop-drop, drop-cons, take-suc-set, take-all}
 use Rattle.lists.specs.Lists.{pick, spelled, filter}
-use Rattle.parity_rules.specs.Correction.{matching, subsets, xorOf, sizeOf, flipped}
-use Rattle.parity_rules.specs.Steps.{Left, Chosen, ChosenByte, first}
+use Rattle.parity_rules.specs.Correction.{matching, first, subsets, xorOf, sizeOf, flipped}
+use Rattle.parity_rules.specs.Steps.{Left, Chosen, ChosenByte}
 use Rattle.parity_rules.proofs.Choosing.{first-is}
 
 -- t places of the byte at i are done; s is the one match from i on

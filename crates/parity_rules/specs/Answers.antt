@@ -1,34 +1,23 @@
 -- Numbers given back: what each case of an answer says in document 01's terms.
 use Prim.Native.Nat.{ℕ}
-use mathlib.Core.List.{List}
+use mathlib.Core.List.{List, [], _∷_}
+use Rattle.lists.specs.Checks.{Check}
+use Rattle.lists.specs.Answers.{Answer, done, refusal}
 use Rattle.parity_rules.specs.declared.answers.Reckoned.{Reckoned}
 use Rattle.parity_rules.specs.declared.answers.Reckoned.the-variants as reckoned
 use Rattle.parity_rules.specs.declared.answers.Fix.{Fix}
 use Rattle.parity_rules.specs.declared.answers.Fix.the-variants as fix
 
 -- ---- a call that reckons a number
--- the number given back, and the value beside it
-pub record Answer : Type 0 where
-  pub number : ℕ
-  pub value : ℕ
-
--- "0 means done", with the value
-abbrev pub done : ℕ → Answer
-done v = record { number = 0; value = v }
-
--- "a refusal returns its number alone"
-abbrev pub refusal : ℕ → Answer
-refusal n = record { number = n; value = 0 }
-
--- each case's number and value
-abbrev pub answered : Reckoned → Answer
-answered (reckoned.Is v) = done v
-answered reckoned.Length = refusal 1
-answered reckoned.Range = refusal 2
+-- each case's number, and the value beside it
+abbrev pub reckonedSaid : Reckoned → Answer
+reckonedSaid (reckoned.Is v) = done (v ∷ [])
+reckonedSaid reckoned.Length = refusal 1
+reckonedSaid reckoned.Range = refusal 2
 
 -- ---- a correction
 -- the number given back, the flips beside it, and what the output buffer then holds
-pub record Outcome : Type 0 where
+pub record Correction : Type 0 where
   pub number : ℕ
   pub flips : ℕ
   pub output : List ℕ
@@ -52,9 +41,9 @@ flipsOf fix.NoMatch = 0
 flipsOf fix.Doubt = 0
 
 -- what an answer and the buffer after the call say
-abbrev pub said : Fix → List ℕ → Outcome
-said f out = record { number = fixNumber f; flips = flipsOf f; output = out }
+abbrev pub fixSaid : Fix → List ℕ → Correction
+fixSaid f out = record { number = fixNumber f; flips = flipsOf f; output = out }
 
 -- "a refusal returns its number alone and changes nothing"
-abbrev pub refused : ℕ → List ℕ → Outcome
-refused n out = record { number = n; flips = 0; output = out }
+abbrev pub notCorrected : List ℕ → Check → Correction
+notCorrected out c = record { number = c .number; flips = 0; output = out }

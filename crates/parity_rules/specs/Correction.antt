@@ -1,14 +1,15 @@
--- Correction: every subset of the marked bits counts, and the outcome goes by how many match.
+-- Correction: every subset of the marked bits counts, and what it comes to goes by how many match.
 -- A subset is a list of bits as long as the message, 1 where the bit is in it: so it reads as a mark buffer does.
 use Prim.Native.Nat.{ℕ, zero, suc, _+_}
-use mathlib.Core.Bool.{Bool, _&&_}
+use mathlib.Core.Bool.{Bool, _&&_, not}
 use mathlib.Core.List.{List, [], _∷_, _++_, map}
 use lib.Bits.{bitXor}
 use lib.Dec.{eqb, leb, ltb}
 use lib.ListN.{length, take, drop}
-use Rattle.lists.specs.Lists.{pick, filter, spelled}
-use Rattle.parity_rules.specs.Messages.{bits, whole}
-use Rattle.parity_rules.specs.Answers.{Outcome, refused}
+use Rattle.lists.specs.Lists.{filter, spelled}
+use Rattle.lists.specs.Checks.{Check, check, checked}
+use Rattle.parity_rules.specs.Messages.{bits, sevenOrFourteen}
+use Rattle.parity_rules.specs.Answers.{Correction, notCorrected}
 use Rattle.parity_rules.specs.Division.{remainderOf, syndrome}
 
 -- the number of places in a subset: "its size"
@@ -41,27 +42,45 @@ unfoldable pub flipped : List ℕ → List ℕ → List ℕ
 flipped [] s = []
 flipped (b ∷ bs) s = bitXor b (spelled 0 (take 8 s)) ∷ flipped bs (drop 8 s)
 
--- "exactly one match": the output and the subset's size; none: 12; more: 13
-abbrev pub byMatches : List ℕ → List ℕ → List (List ℕ) → Outcome
-byMatches msg out [] = refused 12 out
-byMatches msg out (s ∷ []) = record { number = 0; flips = sizeOf s; output = flipped msg s }
-byMatches msg out (s ∷ t ∷ r) = refused 13 out
+-- the subsets of the marked bits that match
+abbrev pub matchesOf : List ℕ → List ℕ → ℕ → List (List ℕ)
+matchesOf msg marks overlay = matching (sought msg overlay) (bits marks)
+
+-- the first of some subsets
+abbrev pub first : List (List ℕ) → List ℕ
+first [] = []
+first (s ∷ r) = s
+
+-- "exactly one match": the message with that subset flipped, and the subset's size
+abbrev pub flippedBy : List ℕ → List (List ℕ) → Correction
+flippedBy msg l = record { number = 0; flips = sizeOf (first l); output = flipped msg (first l) }
 
 -- 7 or 14 bytes, and mark and output buffer as long as the message
 abbrev pub sized : ℕ → ℕ → ℕ → Bool
-sized msg marks out = eqb marks msg && eqb out msg && whole msg
+sized msg marks out = eqb marks msg && eqb out msg && sevenOrFourteen msg
 
 -- an overlay of 24 bits and a limit of 0 to 12
 abbrev pub ranged : ℕ → ℕ → Bool
 ranged overlay limit = ltb overlay 0x1000000 && leb limit 12
 
--- a correction, its checks in the order of the numbers: 1, 2, 11, then 12 or 13
-unfoldable pub correction : List ℕ → List ℕ → ℕ → ℕ → List ℕ → Outcome
+-- 12: no subset matches; 13: more than one
+abbrev pub matchChecks : List (List ℕ) → List Check
+matchChecks l = check 12 (eqb (length l) 0) ∷ check 13 (ltb 1 (length l)) ∷ []
+
+-- 11: more marks than the limit; then by the subsets that match
+unfoldable pub markChecks : List ℕ → List ℕ → ℕ → ℕ → List Check
+markChecks msg marks overlay limit = check 11 (ltb limit (sizeOf (bits marks))) ∷ matchChecks (matchesOf msg marks overlay)
+
+-- 1: the lengths; 2: overlay and limit; then the marks
+unfoldable pub correctionChecks : List ℕ → List ℕ → ℕ → ℕ → List ℕ → List Check
+unfolding markChecks
+correctionChecks msg marks overlay limit out =
+    check 1 (not (sized (length msg) (length marks) (length out)))
+    ∷ check 2 (not (ranged overlay limit))
+    ∷ markChecks msg marks overlay limit
+
+-- a correction
+unfoldable pub correction : List ℕ → List ℕ → ℕ → ℕ → List ℕ → Correction
+unfolding correctionChecks
 correction msg marks overlay limit out =
-    pick (sized (length msg) (length marks) (length out))
-    (pick (ranged overlay limit)
-    (pick (leb (sizeOf (bits marks)) limit)
-    (byMatches msg out (matching (sought msg overlay) (bits marks)))
-    (refused 11 out))
-    (refused 2 out))
-    (refused 1 out)
+    checked (correctionChecks msg marks overlay limit out) (notCorrected out) (flippedBy msg (matchesOf msg marks overlay))

@@ -2,12 +2,14 @@
 -- A polynomial of degree below 25 is a number whose binary digits are its coefficients; `bitXor` adds two of them.
 use Prim.Native.Nat.{ℕ, _+_, _-_, _*_}
 use mathlib.Core.List.{List, [], _∷_}
+use mathlib.Core.Bool.{not}
 use lib.Bits.{bitXor}
 use lib.Dec.{ltb}
 use lib.ListN.{length, replicate}
 use Rattle.lists.specs.Lists.{pick}
-use Rattle.parity_rules.specs.Messages.{bits, whole}
-use Rattle.parity_rules.specs.Answers.{Answer, done, refusal}
+use Rattle.lists.specs.Checks.{Check, check, checked}
+use Rattle.lists.specs.Answers.{Answer, done, refusedBy}
+use Rattle.parity_rules.specs.Messages.{bits, sevenOrFourteen}
 
 -- "the generator is 1FFF409 hex"
 abbrev pub generator : ℕ
@@ -30,9 +32,13 @@ divide r (b ∷ bs) = divide (shiftIn r b) bs
 unfoldable pub remainderOf : List ℕ → ℕ
 remainderOf bs = divide 0 bs
 
--- "a message's remainder is the remainder of all its bits as a polynomial"; refusal 1 unless it has 7 or 14 bytes
-abbrev pub remainderAnswer : List ℕ → Answer
-remainderAnswer msg = pick (whole (length msg)) (done (remainderOf (bits msg))) (refusal 1)
+-- "a message's remainder is the remainder of all its bits as a polynomial"; 1: a message not of 7 or 14 bytes
+unfoldable pub remainderChecks : List ℕ → List Check
+remainderChecks msg = check 1 (not (sevenOrFourteen (length msg))) ∷ []
+
+unfoldable pub remainderAnswer : List ℕ → Answer
+unfolding remainderChecks
+remainderAnswer msg = checked (remainderChecks msg) refusedBy (done (remainderOf (bits msg) ∷ []))
 
 -- the syndrome of x^k
 unfoldable pub syndrome : ℕ → ℕ

@@ -1,14 +1,16 @@
--- The starred examples of document 01 that speak of parity, as one listing: what the definitions give beside what the paper gives.
+-- The starred examples of document 01 that speak of parity, and each line of the tables on either side of its edge, as one listing: what the
+-- definitions give beside what the paper gives.
 use Prim.Native.Nat.{ℕ, _-_, _/_, _%_, _^_}
 use mathlib.Core.Path.{refl}
 use mathlib.Core.List.{List, [], _∷_}
 use lib.Bits.{bitXor}
-use lib.ListN.{replicate, set}
+use lib.ListN.{getD, replicate, set}
 use Rattle.lists.specs.Listing.{Row, row, Agrees}
 use Rattle.lists.specs.Lists.{filter}
+use Rattle.lists.specs.Checks.{checked}
 use Rattle.parity_rules.specs.Messages.{bits}
-use Rattle.parity_rules.specs.Division.{shiftIn, divide, remainderOf, syndrome, syndromeOfBit}
-use Rattle.parity_rules.specs.Overlays.{lowBits, times, overlayOf, uplinkOverlay}
+use Rattle.parity_rules.specs.Division.{shiftIn, divide, remainderOf, remainderAnswer, syndrome, syndromeOfBit}
+use Rattle.parity_rules.specs.Overlays.{lowBits, times, overlayOf, uplinkOverlay, codeOverlay}
 use Rattle.parity_rules.specs.Correction.{sizeOf, subsets, xorOf, matching, flipped, correction}
 
 -- the syndrome of long bit i
@@ -43,9 +45,34 @@ corrected msg marks overlay limit =
 
 -- an uplink overlay's value
 abbrev uplink : ℕ → ℕ
-uplink a = uplinkOverlay a .value
+uplink a = getD (uplinkOverlay a .values) 0 0
 
--- the starred examples, in the paper's order
+-- ---- the tables at their edges
+-- the number of a correction of zeros with buffers of these lengths, and of one with this overlay and limit
+abbrev withLengths : ℕ → ℕ → ℕ → ℕ
+withLengths msg marks out = correction (replicate msg 0) (replicate marks 0) 0 0 (replicate out 255) .number
+
+abbrev withRanges : ℕ → ℕ → ℕ
+withRanges overlay limit = correction zeros zeros overlay limit before .number
+
+-- the kept example of refusal 13: these six places are a code word, so they and none of them match; without the last only the empty subset does
+abbrev five : List ℕ
+five = 0 ∷ 0 ∷ 0 ∷ 0 ∷ 0 ∷ 1 ∷ 6 ∷ 64 ∷ 0 ∷ 0 ∷ 0 ∷ 0 ∷ 32 ∷ 0 ∷ []
+
+abbrev six : List ℕ
+six = 0 ∷ 0 ∷ 0 ∷ 0 ∷ 0 ∷ 1 ∷ 6 ∷ 64 ∷ 0 ∷ 0 ∷ 0 ∷ 0 ∷ 32 ∷ 1 ∷ []
+
+-- the numbers of a remainder of so many zeros, of an uplink overlay, and of a code's
+abbrev divided : ℕ → ℕ
+divided n = remainderAnswer (replicate n 0) .number
+
+abbrev overlaid : ℕ → ℕ
+overlaid a = uplinkOverlay a .number
+
+abbrev coded : ℕ → ℕ → List ℕ
+coded cl ic = let a = codeOverlay cl ic in a .number ∷ a .values
+
+-- the starred examples, in the paper's order; then each line at its edge, and of two faults the first line's number
 abbrev pub listing : List Row
 listing =
     row (long 1 ∷ long 31 ∷ long 111 ∷ []) (0x3935EA ∷ 0xFDB444 ∷ 0x000002 ∷ [])
@@ -55,9 +82,23 @@ listing =
     ∷ row (corrected three three 0 2) (11 ∷ 0 ∷ before)
     ∷ row (corrected zeros last 0x000002 5) (0 ∷ 1 ∷ last)
     ∷ row (uplink 0x000001 ∷ uplink 0x000002 ∷ uplink 0x000004 ∷ uplink 0x800000 ∷ []) (0x000001 ∷ 0x000003 ∷ 0x000007 ∷ 0xFFFA04 ∷ [])
+    ∷ row (divided 6 ∷ divided 7 ∷ divided 8 ∷ divided 13 ∷ divided 14 ∷ divided 15 ∷ []) (1 ∷ 0 ∷ 1 ∷ 1 ∷ 0 ∷ 1 ∷ [])
+    ∷ row (overlaid 0xFFFFFF ∷ overlaid 0x1000000 ∷ []) (0 ∷ 2 ∷ [])
+    ∷ row (coded 7 15) (0 ∷ 127 ∷ [])
+    ∷ row (coded 8 15) (2 ∷ [])
+    ∷ row (coded 7 16) (2 ∷ [])
+    ∷ row (withLengths 6 6 6 ∷ withLengths 7 7 7 ∷ withLengths 8 8 8 ∷ withLengths 13 13 13 ∷ withLengths 14 14 14 ∷ withLengths 15 15 15 ∷ [])
+    (1 ∷ 0 ∷ 1 ∷ 1 ∷ 0 ∷ 1 ∷ [])
+    ∷ row (withLengths 14 7 14 ∷ withLengths 14 14 7 ∷ []) (1 ∷ 1 ∷ [])
+    ∷ row (withRanges 0xFFFFFF 12 ∷ withRanges 0x1000000 12 ∷ withRanges 0 13 ∷ []) (12 ∷ 2 ∷ 2 ∷ [])
+    ∷ row (corrected three three 0 3) (0 ∷ 3 ∷ zeros)
+    ∷ row (corrected zeros five 0 6) (0 ∷ 0 ∷ zeros)
+    ∷ row (corrected zeros six 0 6) (13 ∷ 0 ∷ before)
+    ∷ row (correction three two 0x1000000 13 (replicate 7 255) .number ∷ corrected three two 0x1000000 1) (1 ∷ 2 ∷ 0 ∷ before)
+    ∷ row (corrected three two 0 1) (11 ∷ 0 ∷ before)
     ∷ []
 
 -- the one claim
 pub corrections-agree : Agrees listing
-unfolding filter bits shiftIn divide remainderOf syndrome sizeOf subsets xorOf matching flipped correction lowBits times overlayOf
-corrections-agree = (refl, (refl, (refl, (refl, (refl, (refl, (refl, tt)))))))
+unfolding filter checked bits shiftIn divide remainderOf syndrome sizeOf subsets xorOf matching flipped correction lowBits times overlayOf remainderAnswer uplinkOverlay codeOverlay
+corrections-agree = (refl, (refl, (refl, (refl, (refl, (refl, (refl, (refl, (refl, (refl, (refl, (refl, (refl, (refl, (refl, (refl, (refl, (refl, (refl, (refl, tt))))))))))))))))))))

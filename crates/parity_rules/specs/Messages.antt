@@ -18,8 +18,8 @@ bits [] = []
 bits (b ∷ bs) = byteThen b (bits bs)
 
 -- whether a number of bytes is that of a message: 7 or 14
-abbrev pub whole : ℕ → Bool
-whole n = eqb n 7 || eqb n 14
+abbrev pub sevenOrFourteen : ℕ → Bool
+sevenOrFourteen n = eqb n 7 || eqb n 14
 
 -- two lists of bits, added place by place: 1 where they differ
 unfoldable pub xorBits : List ℕ → List ℕ → List ℕ

@@ -1,11 +1,11 @@
 -- Overlays: what is laid over the last 24 bits of a message.
 use Prim.Native.Nat.{ℕ, zero, suc, _+_, _*_, _/_, _%_, _^_}
-use mathlib.Core.Bool.{_&&_}
+use mathlib.Core.Bool.{_&&_, not}
 use mathlib.Core.List.{List, [], _∷_}
 use lib.Bits.{bitXor}
 use lib.Dec.{leb, ltb}
-use Rattle.lists.specs.Lists.{pick}
-use Rattle.parity_rules.specs.Answers.{Answer, done, refusal}
+use Rattle.lists.specs.Checks.{Check, check, checked}
+use Rattle.lists.specs.Answers.{Answer, done, refusedBy}
 use Rattle.parity_rules.specs.Division.{generator}
 
 -- the n low bits of a number, the highest at the front
@@ -22,10 +22,18 @@ times p (b ∷ bs) = times (bitXor (p * 2) (b * generator)) bs
 unfoldable pub overlayOf : ℕ → ℕ
 overlayOf address = times 0 (lowBits 24 address) / 2 ^ 24
 
--- the uplink overlay; refusal 2 for an address above 24 bits
-abbrev pub uplinkOverlay : ℕ → Answer
-uplinkOverlay address = pick (ltb address 0x1000000) (done (overlayOf address)) (refusal 2)
+-- the uplink overlay; 2: an address above 24 bits
+unfoldable pub uplinkOverlayChecks : ℕ → List Check
+uplinkOverlayChecks address = check 2 (not (ltb address 0x1000000)) ∷ []
 
--- "for DF 11 the code 16×CL + IC"; refusal 2 unless CL is 0 to 7 and IC 0 to 15
-abbrev pub codeOverlay : ℕ → ℕ → Answer
-codeOverlay cl ic = pick (leb cl 7 && leb ic 15) (done (16 * cl + ic)) (refusal 2)
+unfoldable pub uplinkOverlay : ℕ → Answer
+unfolding uplinkOverlayChecks
+uplinkOverlay address = checked (uplinkOverlayChecks address) refusedBy (done (overlayOf address ∷ []))
+
+-- "for DF 11 the code 16×CL + IC"; 2: CL above 7 or IC above 15
+unfoldable pub codeOverlayChecks : ℕ → ℕ → List Check
+codeOverlayChecks cl ic = check 2 (not (leb cl 7 && leb ic 15)) ∷ []
+
+unfoldable pub codeOverlay : ℕ → ℕ → Answer
+unfolding codeOverlayChecks
+codeOverlay cl ic = checked (codeOverlayChecks cl ic) refusedBy (done ((16 * cl + ic) ∷ []))

@@ -34,11 +34,6 @@ unfoldable pub ways : ℕ → List ℕ → ℕ
 ways want [] = pick (eqb want 0) 1 0
 ways want (s ∷ l) = ways (bitXor want s) l + ways want l
 
--- the first of some subsets
-abbrev pub first : List (List ℕ) → List ℕ
-first [] = []
-first (s ∷ r) = s
-
 -- one bit b more before those that are noted, with its syndrome: the count and the syndromes afterwards
 pub record Noted (many : ℕ) (syns : List ℕ) (b syn many′ : ℕ) (syns′ : List ℕ) : Type 0 where
   pub room : length syns′ ≡ 12

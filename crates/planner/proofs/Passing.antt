@@ -51,7 +51,8 @@ snoc-count : {A : Type 0} (v : List A) (x : A) → length v + 1 ≡ length (v ++
 snoc-count v x = simp length-append (omega arith)
 
 -- the slots of a board, with one request more
-settled-slots : (s : Place) (a : Ask) (x : Board) (old : List Entry) (base : List Ask) → length (x .placed) < length old → length (x .waiting) < length base → settledIn s a (inSlots x old base) ≡ inSlots (settled s a x) old base
+settled-slots : (s : Place) (a : Ask) (x : Board) (old : List Entry) (base : List Ask) → length (x .placed) < length old → length (x .waiting) < length base
+    → settledIn s a (inSlots x old base) ≡ inSlots (settled s a x) old base
 unfolding settled
 settled-slots (At t) a x old base h k = rw (over-push (x .placed) old (entryAt a t) (length (x .placed)) refl h, snoc-count (x .placed) (entryAt a t))
 settled-slots Nowhere a x old base h k = rw (over-push (x .waiting) base a (length (x .waiting)) refl k, snoc-count (x .waiting) a)
@@ -67,7 +68,9 @@ module _ (L : ℕ) (limits : List ℕ) where
     where
       go : (s : Place) → glue (x .waiting) (elim s as (λ _. Board) [ At t ↦ pass L limits (x .placed ++ (entryAt a t ∷ [])) w | Nowhere ↦ stays a (pass L limits (x .placed) w) ]) ≡ rest (settled s a x) w
       go (At t) = refl
-      go Nowhere = ap (λ (l : List Ask). record { placed = pass L limits (x .placed) w .placed; waiting = l }) (sym (append-snoc (x .waiting) a (pass L limits (x .placed) w .waiting)))
+      go Nowhere =
+          ap (λ (l : List Ask). record { placed = pass L limits (x .placed) w .placed; waiting = l })
+          (sym (append-snoc (x .waiting) a (pass L limits (x .placed) w .waiting)))
 
   rest-end : (x : Board) → rest x [] ≡ x
   unfolding pass
@@ -124,7 +127,8 @@ module _ (L : ℕ) (limits : List ℕ) where
             let m : p .waiting ≡ length (h .board .waiting) = ap (λ (q : Planned). q .waiting) (h .slots) in
             sym (ap (λ (q : Planned). getD (q .asks) i d) (h .slots) ∙ over-read (h .board .waiting) (b .asks) i d (omega (arith, h .sum, h .grown)))
 
-        step : (s : Place) (counts′ : List ℕ) → s ≡ tried L (share limits (a .request .unit)) (h .board .placed) a → Tallied counts′ (settled s a (h .board) .placed)
+        step : (s : Place) (counts′ : List ℕ) → s ≡ tried L (share limits (a .request .unit)) (h .board .placed) a
+            → Tallied counts′ (settled s a (h .board) .placed)
             → Passing b (i + 1) counts′ (settledIn s a p)
         step s counts′ e c =
             let n : p .placed ≡ length (h .board .placed) = ap (λ (q : Planned). q .placed) (h .slots) in
@@ -160,7 +164,8 @@ module _ (L : ℕ) (limits : List ℕ) where
           pub pass-stay : n < k → Nowhere ≡ place L (placedIn p) a → Passing b (i + 1) counts (settledIn Nowhere a p)
           unfolding settled
           pass-stay f e =
-              step Nowhere counts (e ∙ ap (λ (v : List Entry). place L v a) here ∙ below-limit L limits counts (h .board .placed) a eight (h .tallied) (omega arith)) (h .tallied)
+              step Nowhere counts
+              (e ∙ ap (λ (v : List Entry). place L v a) here ∙ below-limit L limits counts (h .board .placed) a eight (h .tallied) (omega arith)) (h .tallied)
 
           pub pass-at : n < k → (t : ℕ) (x : Entry) (counts′ : List ℕ) → x ≡ entryAt a t
               → counts′ ≡ set counts (a .request .unit) (share counts (a .request .unit) + 1) → At t ≡ place L (placedIn p) a
@@ -173,7 +178,8 @@ module _ (L : ℕ) (limits : List ℕ) where
               (tallied-more counts (h .board .placed) (entryAt a t) (h .tallied)))
 
     -- at the end
-    pub pass-end : (i : ℕ) (rows counts : List ℕ) (p : Planned) → b .waiting ≤ i → Passing b i counts p → Shown rows (p .placed) (p .entries) → PassedOver L limits b p rows counts
+    pub pass-end : (i : ℕ) (rows counts : List ℕ) (p : Planned) → b .waiting ≤ i → Passing b i counts p → Shown rows (p .placed) (p .entries)
+        → PassedOver L limits b p rows counts
     pass-end i rows counts p l h s =
         let none = front-end (b .waiting) (b .asks) i (omega (arith, h .asks-all, h .room)) in
         record {
@@ -192,7 +198,8 @@ shows x old p h =
     rw (e, h .asks)
 
 -- a pass over slots that hold a board
-pass-laid : (L : ℕ) (limits : List ℕ) (x : Board) (old : List Entry) (p r : Planned) → Laid x old p → r ≡ inSlots (passOver L limits (boardOf p)) (p .entries) (p .asks)
+pass-laid : (L : ℕ) (limits : List ℕ) (x : Board) (old : List Entry) (p r : Planned) → Laid x old p
+    → r ≡ inSlots (passOver L limits (boardOf p)) (p .entries) (p .asks)
     → Laid (passOver L limits x) old r
 pass-laid L limits x old p r h q =
     let y = passOver L limits x in
@@ -218,7 +225,8 @@ module _ (L : ℕ) (shares : List ℕ) (n : ℕ) (old : List Entry) (base : List
     pub shown : Shown rows (p .placed) (p .entries)
     pub tallied : Tallied counts (placedIn p)
 
-  pub turn-none : (rows : List ℕ) → length rows ≡ 640 → n ≤ length base → Turning 0 (record { placed = 0; entries = old; waiting = n; asks = base }) rows (replicate 8 0)
+  pub turn-none : (rows : List ℕ) → length rows ≡ 640 → n ≤ length base
+      → Turning 0 (record { placed = 0; entries = old; waiting = n; asks = base }) rows (replicate 8 0)
   unfolding turns
   turn-none rows z h =
       record {
@@ -230,7 +238,8 @@ module _ (L : ℕ) (shares : List ℕ) (n : ℕ) (old : List Entry) (base : List
   pub turn-room : (u : ℕ) (p : Planned) (rows counts : List ℕ) → n ≤ 128 → Turning u p rows counts → p .placed + p .waiting ≤ 128
   turn-room u p rows counts h e = omega (arith, e .laid .placed, e .laid .waiting, turns-sizes L shares u begin, length-take n base)
 
-  pub turn-more : (u : ℕ) (limits : List ℕ) (p r : Planned) (rows counts rows′ counts′ : List ℕ) → limits ≡ alone u shares → Turning u p rows counts → PassedOver L limits p r rows′ counts′
+  pub turn-more : (u : ℕ) (limits : List ℕ) (p r : Planned) (rows counts rows′ counts′ : List ℕ) → limits ≡ alone u shares → Turning u p rows counts
+      → PassedOver L limits p r rows′ counts′
       → Turning (u + 1) r rows′ counts′
   unfolding turns
   turn-more u limits p r rows counts rows′ counts′ k e q =
@@ -244,7 +253,8 @@ module _ (L : ℕ) (shares : List ℕ) (n : ℕ) (old : List Entry) (base : List
       }
 
   -- and the rest by age
-  pub all-passed : (s : Setup) (u : ℕ) (p r : Planned) (rows counts rows′ counts′ : List ℕ) → L ≡ s .period → shares ≡ s .guarantee → u ≤ 8 → 8 ≤ u → Turning u p rows counts
+  pub all-passed : (s : Setup) (u : ℕ) (p r : Planned) (rows counts rows′ counts′ : List ℕ) → L ≡ s .period → shares ≡ s .guarantee → u ≤ 8 → 8 ≤ u
+      → Turning u p rows counts
       → PassedOver L (s .ceiling) p r rows′ counts′ → Laid (plan s (take n base)) old r
   unfolding plan
   all-passed s u p r rows counts rows′ counts′ x y a b e q =

@@ -119,7 +119,8 @@ pub shown-none : (rows : List ℕ) (es : List Entry) → length rows ≡ 640 →
 shown-none rows es h = record { all = h; each = λ i d l. absurd (omega arith); room = λ i l. absurd (omega arith) }
 
 -- one row more, where the entries before it are the same
-shown-more : (rows : List ℕ) (n : ℕ) (es es′ : List Entry) (e : Entry) → listens e .hi ≤ 200000 → n < 128 → ((i : ℕ) (d : Entry) → i < n → getD es′ i d ≡ getD es i d) → ((d : Entry) → getD es′ n d ≡ e) → Shown rows n es → Shown (noted e n rows) (n + 1) es′
+shown-more : (rows : List ℕ) (n : ℕ) (es es′ : List Entry) (e : Entry) → listens e .hi ≤ 200000 → n < 128
+    → ((i : ℕ) (d : Entry) → i < n → getD es′ i d ≡ getD es i d) → ((d : Entry) → getD es′ n d ≡ e) → Shown rows n es → Shown (noted e n rows) (n + 1) es′
 shown-more rows n es es′ e small l same last h =
     record {
       all = as-long e n rows ∙ h .all;
@@ -141,7 +142,8 @@ shown-more rows n es es′ e small l same last h =
     }
 
 -- a row more for an entry that is placed behind the others
-pub shown-placed : (rows after : List ℕ) (n : ℕ) (es : List Entry) (e x : Entry) → after ≡ noted e n rows → x ≡ e → listens e .hi ≤ 200000 → n < length es → n < 128 → Shown rows n es → Shown after (n + 1) (set es n x)
+pub shown-placed : (rows after : List ℕ) (n : ℕ) (es : List Entry) (e x : Entry) → after ≡ noted e n rows → x ≡ e → listens e .hi ≤ 200000 → n < length es
+    → n < 128 → Shown rows n es → Shown after (n + 1) (set es n x)
 shown-placed rows after n es e x q y small k l h =
     rw (q, y)
     (shown-more rows n es (set es n e) e small l

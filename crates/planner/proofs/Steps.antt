@@ -22,7 +22,8 @@ use Rattle.planner_rules.proofs.Smallest.{le-or-lt, late, place-at, place-none}
 use Rattle.planner_rules.proofs.Clear.{or-right, clear-swap, clear-late, clear-of-none, clear-of-snoc, unclear-part}
 
 -- one interval of an exchange against one of another
-past-step : (p : ℕ → Span) (q : Span) (a b lo hi t r : ℕ) → ((j : ℕ) → p j .lo ≡ j + a) → ((j : ℕ) → p j .hi ≡ j + b) → q .lo ≡ lo → q .hi ≡ hi → Past t a b lo hi r → Step (λ (j : ℕ). apart (p j) q) t r
+past-step : (p : ℕ → Span) (q : Span) (a b lo hi t r : ℕ) → ((j : ℕ) → p j .lo ≡ j + a) → ((j : ℕ) → p j .hi ≡ j + b) → q .lo ≡ lo → q .hi ≡ hi
+    → Past t a b lo hi r → Step (λ (j : ℕ). apart (p j) q) t r
 unfolding apart
 past-step p q a b lo hi t r l h ql qh s =
     record {
@@ -58,7 +59,8 @@ stay-put : (f : ℕ → Bool) (t : ℕ) → t ≤ 200000 → f t ≡ true → St
 stay-put f t small passes = record { up = omega arith; cap = small; none = λ j from to. absurd (omega arith); same = λ e. passes }
 
 -- a request tried from t on, against an entry e
-module _ (a : Ask) (e : Entry) (t : ℕ) (p : Exchange) (at sent from end : ℕ) (x : p ≡ held (exchangeOf a)) (at-is : at ≡ transmits e .lo) (sent-is : sent ≡ transmits e .hi) (from-is : from ≡ listens e .lo) (end-is : end ≡ listens e .hi) where
+module _ (a : Ask) (e : Entry) (t : ℕ) (p : Exchange) (at sent from end : ℕ) (x : p ≡ held (exchangeOf a)) (at-is : at ≡ transmits e .lo)
+    (sent-is : sent ≡ transmits e .hi) (from-is : from ≡ listens e .lo) (end-is : end ≡ listens e .hi) where
   p-sent : p .sent ≡ exchangeOf a .sent
   p-sent = ap (λ (r : Exchange). r .sent) x
 
@@ -76,33 +78,45 @@ module _ (a : Ask) (e : Entry) (t : ℕ) (p : Exchange) (at sent from end : ℕ)
       && apart (listens (entryAt a j)) (listens e)
 
   -- the four intervals
-  ground : (t1 t2 t3 t4 : ℕ) → Past t 0 (p .sent) at sent t1 → Past t1 0 (p .sent) from end t2 → Past t2 (p .from) (p .to) at sent t3 → Past t3 (p .from) (p .to) from end t4 → Step four t t4
+  ground : (t1 t2 t3 t4 : ℕ) → Past t 0 (p .sent) at sent t1 → Past t1 0 (p .sent) from end t2 → Past t2 (p .from) (p .to) at sent t3
+      → Past t3 (p .from) (p .to) from end t4 → Step four t t4
   ground t1 t2 t3 t4 p1 p2 p3 p4 =
-      let s1 = past-step (λ (j : ℕ). transmits (entryAt a j)) (transmits e) 0 (p .sent) at sent t t1 (λ j. omega arith) (λ j. omega (arith, p-sent)) (sym at-is) (sym sent-is) p1 in
-      let s2 = past-step (λ (j : ℕ). transmits (entryAt a j)) (listens e) 0 (p .sent) from end t1 t2 (λ j. omega arith) (λ j. omega (arith, p-sent)) (sym from-is) (sym end-is) p2 in
-      let s3 = past-step (λ (j : ℕ). listens (entryAt a j)) (transmits e) (p .from) (p .to) at sent t2 t3 (λ j. omega (arith, p-from)) (λ j. omega (arith, p-to)) (sym at-is) (sym sent-is) p3 in
-      let s4 = past-step (λ (j : ℕ). listens (entryAt a j)) (listens e) (p .from) (p .to) from end t3 t4 (λ j. omega (arith, p-from)) (λ j. omega (arith, p-to)) (sym from-is) (sym end-is) p4 in
+      let s1 = past-step (λ (j : ℕ). transmits (entryAt a j)) (transmits e) 0 (p .sent) at sent t t1 (λ j. omega arith) (λ j. omega (arith, p-sent))
+      (sym at-is) (sym sent-is) p1 in
+      let s2 = past-step (λ (j : ℕ). transmits (entryAt a j)) (listens e) 0 (p .sent) from end t1 t2 (λ j. omega arith) (λ j. omega (arith, p-sent))
+      (sym from-is) (sym end-is) p2 in
+      let s3 = past-step (λ (j : ℕ). listens (entryAt a j)) (transmits e) (p .from) (p .to) at sent t2 t3 (λ j. omega (arith, p-from))
+      (λ j. omega (arith, p-to)) (sym at-is) (sym sent-is) p3 in
+      let s4 = past-step (λ (j : ℕ). listens (entryAt a j)) (listens e) (p .from) (p .to) from end t3 t4 (λ j. omega (arith, p-from))
+      (λ j. omega (arith, p-to)) (sym from-is) (sym end-is) p4 in
       then _ _ t t3 t4 (then _ _ t t2 t3 (then _ _ t t1 t2 s1 s2) s3) s4
 
   -- and for one aircraft the whole spans
-  pub one-aircraft : (t1 t2 t3 t4 t5 : ℕ) → Past t 0 (p .sent) at sent t1 → Past t1 0 (p .sent) from end t2 → Past t2 (p .from) (p .to) at sent t3 → Past t3 (p .from) (p .to) from end t4 → a .request .address ≡ e .ask .request .address → Past t4 0 (p .to) at end t5 → Step (λ (j : ℕ). clear (entryAt a j) e) t t5
+  pub one-aircraft : (t1 t2 t3 t4 t5 : ℕ) → Past t 0 (p .sent) at sent t1 → Past t1 0 (p .sent) from end t2 → Past t2 (p .from) (p .to) at sent t3
+      → Past t3 (p .from) (p .to) from end t4 → a .request .address ≡ e .ask .request .address → Past t4 0 (p .to) at end t5
+      → Step (λ (j : ℕ). clear (entryAt a j) e) t t5
   unfolding clear
   one-aircraft t1 t2 t3 t4 t5 p1 p2 p3 p4 same w =
-      let s5 = past-step (λ (j : ℕ). spans (entryAt a j)) (spans e) 0 (p .to) at end t4 t5 (λ j. omega arith) (λ j. omega (arith, p-to)) (sym at-is) (sym end-is) w in
-      then _ _ t t4 t5 (ground t1 t2 t3 t4 p1 p2 p3 p4) (subst (λ (b : Bool). Step (λ (j : ℕ). not b || apart (spans (entryAt a j)) (spans e)) t4 t5) (sym (eq-eqb _ _ same)) s5)
+      let s5 = past-step (λ (j : ℕ). spans (entryAt a j)) (spans e) 0 (p .to) at end t4 t5 (λ j. omega arith) (λ j. omega (arith, p-to)) (sym at-is)
+      (sym end-is) w in
+      then _ _ t t4 t5 (ground t1 t2 t3 t4 p1 p2 p3 p4)
+      (subst (λ (b : Bool). Step (λ (j : ℕ). not b || apart (spans (entryAt a j)) (spans e)) t4 t5) (sym (eq-eqb _ _ same)) s5)
 
-  pub two-aircraft : (t1 t2 t3 t4 : ℕ) → Past t 0 (p .sent) at sent t1 → Past t1 0 (p .sent) from end t2 → Past t2 (p .from) (p .to) at sent t3 → Past t3 (p .from) (p .to) from end t4 → (a .request .address ≡ e .ask .request .address → ⊥) → Step (λ (j : ℕ). clear (entryAt a j) e) t t4
+  pub two-aircraft : (t1 t2 t3 t4 : ℕ) → Past t 0 (p .sent) at sent t1 → Past t1 0 (p .sent) from end t2 → Past t2 (p .from) (p .to) at sent t3
+      → Past t3 (p .from) (p .to) from end t4 → (a .request .address ≡ e .ask .request .address → ⊥) → Step (λ (j : ℕ). clear (entryAt a j) e) t t4
   unfolding clear
   two-aircraft t1 t2 t3 t4 p1 p2 p3 p4 other =
       let s = ground t1 t2 t3 t4 p1 p2 p3 p4 in
-      then _ _ t t4 t4 s (subst (λ (b : Bool). Step (λ (j : ℕ). not b || apart (spans (entryAt a j)) (spans e)) t4 t4) (sym (ne-eqb _ _ other)) (stay-put _ t4 (s .cap) refl))
+      then _ _ t t4 t4 s
+      (subst (λ (b : Bool). Step (λ (j : ℕ). not b || apart (spans (entryAt a j)) (spans e)) t4 t4) (sym (ne-eqb _ _ other)) (stay-put _ t4 (s .cap) refl))
 
   -- one is over before the other starts
   pub entry-over : t ≤ 200000 → end ≤ t → Step (λ (j : ℕ). clear (entryAt a j) e) t t
   entry-over small h = stay-put (λ (j : ℕ). clear (entryAt a j) e) t small (clear-late (entryAt a t) e (omega (arith, end-is)))
 
   pub request-over : t ≤ 200000 → t + p .to ≤ at → Step (λ (j : ℕ). clear (entryAt a j) e) t t
-  request-over small h = stay-put (λ (j : ℕ). clear (entryAt a j) e) t small (clear-swap (entryAt a t) e ∙ clear-late e (entryAt a t) (omega (arith, p-to, at-is)))
+  request-over small h =
+      stay-put (λ (j : ℕ). clear (entryAt a j) e) t small (clear-swap (entryAt a t) e ∙ clear-late e (entryAt a t) (omega (arith, p-to, at-is)))
 
 -- rounds over the first n entries: no start below from fits, and since from the first i entries were passed
 module _ (L : ℕ) (a : Ask) (n : ℕ) (es : List Entry) where
@@ -130,7 +144,8 @@ module _ (L : ℕ) (a : Ask) (n : ℕ) (es : List Entry) where
   pub round-first : Rounds 0 0 0
   round-first = record { within = omega arith; below = λ j l. absurd (omega arith); round = stay-put (clearAt 0) 0 (omega arith) (clear-of-none (entryAt a 0)) }
 
-  pub round-more : (from t i r : ℕ) (d : Entry) → i < n → n ≤ length es → Rounds from t i → Step (λ (j : ℕ). clear (entryAt a j) (getD es i d)) t r → Rounds from r (i + 1)
+  pub round-more : (from t i r : ℕ) (d : Entry) → i < n → n ≤ length es → Rounds from t i → Step (λ (j : ℕ). clear (entryAt a j) (getD es i d)) t r
+      → Rounds from r (i + 1)
   round-more from t i r d l b h s =
       let e = front-take n es i d (omega arith) in
       record {
@@ -139,13 +154,15 @@ module _ (L : ℕ) (a : Ask) (n : ℕ) (es : List Entry) where
         round = subst (λ (f : ℕ → Bool). Step f from r) (same e) (then (clearAt i) (λ (j : ℕ). clear (entryAt a j) (getD es i d)) from t r (h .round) s);
       }
     where
-      same : take (i + 1) es ≡ take i es ++ (getD es i d ∷ []) → _≡_ {A = ℕ → Bool} (λ (j : ℕ). clearAt i j && clear (entryAt a j) (getD es i d)) (clearAt (i + 1))
+      same : take (i + 1) es ≡ take i es ++ (getD es i d ∷ [])
+          → _≡_ {A = ℕ → Bool} (λ (j : ℕ). clearAt i j && clear (entryAt a j) (getD es i d)) (clearAt (i + 1))
       same e = fun-ext (λ j. sym (ap (clearOf (entryAt a j)) e ∙ clear-of-snoc (entryAt a j) (take i es) (getD es i d)))
 
   pub found : (from t i end : ℕ) → end ≡ exchangeOf a .to → n ≤ i → t ≡ from → t + end ≤ L → Rounds from t i → At t ≡ place L (take n es) a
   unfolding fits
   found from t i end q all here ends h =
-      let full : clearOf (entryAt a t) (take n es) ≡ true = subst (λ (k : ℕ). clearOf (entryAt a t) (take k es) ≡ true) (le-antisymm (h .within) all) (subst (λ (k : ℕ). clearAt i k ≡ true) (sym here) (h .round .same here)) in
+      let full : clearOf (entryAt a t) (take n es) ≡ true = subst (λ (k : ℕ). clearOf (entryAt a t) (take k es) ≡ true) (le-antisymm (h .within) all)
+      (subst (λ (k : ℕ). clearAt i k ≡ true) (sym here) (h .round .same here)) in
       place-at L (take n es) a t (and-yes _ _ (le-leb (spans (entryAt a t) .hi) L (omega arith)) full) (λ j l. h .below j (omega arith))
 
   pub none-left : (from t i end : ℕ) → end ≡ exchangeOf a .to → L < t + end → Rounds from t i → Nowhere ≡ place L (take n es) a

@@ -24,7 +24,8 @@ use Rattle.planner_rules.proofs.Guarantee.{zeros}
 pub tallied-none : Tallied (replicate 8 0) []
 tallied-none = record { eight = refl; each = λ u l. zeros 8 u ∙ sym (count-nil (λ (e : Entry). ofUnit u (e .ask))) }
 
-pub tallied-more : (c : List ℕ) (es : List Entry) (e : Entry) → Tallied c es → Tallied (set c (e .ask .request .unit) (share c (e .ask .request .unit) + 1)) (es ++ (e ∷ []))
+pub tallied-more : (c : List ℕ) (es : List Entry) (e : Entry) → Tallied c es
+    → Tallied (set c (e .ask .request .unit) (share c (e .ask .request .unit) + 1)) (es ++ (e ∷ []))
 tallied-more c es e h = record { eight = length-set c v (share c v + 1) ∙ h .eight; each = λ u l. go u l (eqb v u) refl }
   where
     v : ℕ

@@ -44,7 +44,8 @@ pub record Step (f : ℕ → Bool) (t r : ℕ) : Type 0 where
 pub record Clearing (p : Exchange) (address at sent from end its t r : ℕ) : Type 0 where
   pub up : t ≤ r
   pub cap : r ≤ 200000
-  pub step : (a : Ask) (e : Entry) → p ≡ held (exchangeOf a) → address ≡ a .request .address → at ≡ transmits e .lo → sent ≡ transmits e .hi → from ≡ listens e .lo → end ≡ listens e .hi → its ≡ e .ask .request .address → Step (λ (j : ℕ). clear (entryAt a j) e) t r
+  pub step : (a : Ask) (e : Entry) → p ≡ held (exchangeOf a) → address ≡ a .request .address → at ≡ transmits e .lo → sent ≡ transmits e .hi
+      → from ≡ listens e .lo → end ≡ listens e .hi → its ≡ e .ask .request .address → Step (λ (j : ℕ). clear (entryAt a j) e) t r
 
 -- the search reads five numbers of each entry placed: row i tells of e its start, the end of its interrogation, the start and the
 -- end of its window, and its address
@@ -69,7 +70,8 @@ pub record Shown (rows : List ℕ) (n : ℕ) (es : List Entry) : Type 0 where
 -- the rows with row i written for an entry
 unfoldable pub noted : Entry → ℕ → List ℕ → List ℕ
 noted e i rows =
-    set (set (set (set (set rows (i * 5) (transmits e .lo)) (i * 5 + 1) (transmits e .hi)) (i * 5 + 2) (listens e .lo)) (i * 5 + 3) (listens e .hi)) (i * 5 + 4) (e .ask .request .address)
+    set (set (set (set (set rows (i * 5) (transmits e .lo)) (i * 5 + 1) (transmits e .hi)) (i * 5 + 2) (listens e .lo)) (i * 5 + 3) (listens e .hi))
+    (i * 5 + 4) (e .ask .request .address)
 
 -- a step as above, against any entry that row i tells of
 pub record ClearingRow (p : Exchange) (address : ℕ) (rows : List ℕ) (i t r : ℕ) : Type 0 where

@@ -3,6 +3,7 @@ ghost use mathlib.Core.Path.{_≡_};
 ghost use Prim.Native.Nat.{_≤_};
 ghost use Rattle.planner_rules.specs.Exchange.{constants, sentShort, sentLong, replyFor, courseOf, exchangeOf};
 ghost use Rattle.planner.specs.Promises.{held, Small};
+use numbers::wide;
 use planner_rules::Ask;
 
 // In ticks from its start: it transmits in [0, sent), listens in [from, to), and ends with its window.
@@ -10,13 +11,6 @@ pub struct Exchange {
     pub sent: u32,
     pub from: u32,
     pub to: u32,
-}
-
-// A number of 16 bits among those of 32.
-pub(crate) fn wide(x: u16) -> u32
-    ensures { λ r. ⌜ (r ≡ x) × (r ≤ 65535) ⌝ }
-{
-    x as u32
 }
 
 impl Exchange {

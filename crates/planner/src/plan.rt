@@ -1,6 +1,6 @@
 // The plan of a period: two phases over the waiting list.
 ghost use mathlib.Core.Path.{_≡_};
-ghost use Prim.Native.Nat.{_+_, _≤_, _<_, min};
+ghost use Prim.Native.Nat.{_+_, _≤_, _<_};
 ghost use lib.ListN.{length, take, set};
 ghost use Rattle.planner_rules.specs.Exchange.{entryAt, listens};
 ghost use Rattle.planner_rules.specs.Shares.{share};
@@ -9,25 +9,16 @@ ghost use Rattle.planner_rules.specs.Plan.{alone, plan, placedIn, asksOf, inSlo
 ghost use Rattle.planner.specs.Promises.{Tallied, noted, Shown, PassedOver, Laid};
 use crate::entry::entry_at;
 use crate::exchange::Exchange;
-use crate::exchange::wide;
 use crate::search::first_fit;
 use crate::shares::share;
+use numbers::live;
+use numbers::wide;
 use planner_rules::Ask;
 use planner_rules::Asks;
 use planner_rules::Entry;
 use planner_rules::Place;
 use planner_rules::Planned;
 use planner_rules::Setup;
-
-// How many slots count: the count, or all of them where the count is too large.
-fn live(n: usize) -> usize
-    ensures { λ r. ⌜ (r ≡ min n 128) × (r ≤ 128) ⌝ }
-{
-    if n < 128 {
-        return n;
-    }
-    128
-}
 
 // The limits in the turn of one unit: its own share, and nothing for the others.
 fn alone_in(u: usize, shares: [u8; 8]) -> [u8; 8]
@@ -156,7 +147,7 @@ fn make_passes(s: Setup, n: usize, asks: [Ask; 128], old: [Entry; 128]) -> Plann
 pub fn make_plan(s: Setup, w: Asks, old: [Entry; 128]) -> Planned
     ensures { λ r. ⌜ r ≡ inSlots (plan s (asksOf w)) old (w .list) ⌝ }
 {
-    let n = live(w.n);
+    let n = live(w.n, 128);
     let base = w.list;
     if n == 0 {
         return Planned {

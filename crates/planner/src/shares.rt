@@ -2,9 +2,9 @@
 ghost use mathlib.Core.Path.{_≡_};
 ghost use Prim.Native.Nat.{_≤_};
 ghost use Rattle.lists.specs.Lists.{total, every};
-ghost use Rattle.planner_rules.specs.Shares.{share, inRange, ordered, sharesFit, setupNumber};
+ghost use Rattle.planner_rules.specs.Shares.{share, inRange, ordered, sharesFit, setupRanged, sharesGood, setupNumber};
 use crate::exchange::Exchange;
-use crate::exchange::wide;
+use numbers::wide;
 use planner_rules::Setup;
 
 // A number of 8 bits among those of 32.
@@ -72,28 +72,44 @@ fn fit(s: Setup) -> bool
     sum(guarantee) * (Exchange::LONGEST + wide(s.reach)) <= wide(s.period)
 }
 
+// Whether the numbers of a setup are in their ranges.
+fn setup_ranged(s: Setup) -> bool
+    ensures { λ r. ⌜ r ≡ setupRanged s ⌝ }
+{
+    if 13000 < s.reach {
+        return false;
+    }
+    if 12 < s.limit {
+        return false;
+    }
+    let guarantee = s.guarantee;
+    if !in_range(guarantee) {
+        return false;
+    }
+    let ceiling = s.ceiling;
+    in_range(ceiling)
+}
+
+// Whether no guarantee is above its ceiling, and the shares fit.
+fn shares_good(s: Setup) -> bool
+    ensures { λ r. ⌜ r ≡ sharesGood s ⌝ }
+{
+    let guarantee = s.guarantee;
+    let ceiling = s.ceiling;
+    if !in_order(guarantee, ceiling) {
+        return false;
+    }
+    fit(s)
+}
+
 // The number that a setup is answered: 0, 2 or 3.
 pub fn judge(s: Setup) -> u8
     ensures { λ r. ⌜ r ≡ setupNumber s ⌝ }
 {
-    if 13000 < s.reach {
+    if !setup_ranged(s) {
         return 2;
     }
-    if 12 < s.limit {
-        return 2;
-    }
-    let guarantee = s.guarantee;
-    if !in_range(guarantee) {
-        return 2;
-    }
-    let ceiling = s.ceiling;
-    if !in_range(ceiling) {
-        return 2;
-    }
-    if !in_order(guarantee, ceiling) {
-        return 3;
-    }
-    if !fit(s) {
+    if !shares_good(s) {
         return 3;
     }
     0

@@ -11,7 +11,8 @@ use borrow.Author.Tests.{le-leb, eqb-true, eqb-false, eq-eqb, ne-eqb}
 use Rattle.lists.specs.Lists.{pick, All}
 use Rattle.lists.proofs.Tests.{and-yes}
 use Rattle.planner_rules.specs.declared.entry.Entry.{Entry}
-use Rattle.planner_rules.specs.Exchange.{Span, sentShort, sentLong, replyShort, replyLong, sentFor, replyFor, transmits, listens, spans, sameAircraft, apart, clear}
+use Rattle.planner_rules.specs.Exchange.{Span, sentShort, sentLong, replyShort, replyLong, sentFor, replyFor, transmits, listens, spans, sameAircraft}
+use Rattle.planner_rules.specs.Exchange.{apart, clear}
 use Rattle.planner_rules.specs.Fits.{clearOf}
 
 -- the lengths of Annex 10 are small

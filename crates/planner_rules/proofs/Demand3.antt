@@ -8,8 +8,10 @@ use mathlib.Core.List.{List, [], map, Sublistᴰ, Sublistᴰ·refl, Sublistᴰ·
 use lib.Dec.{leb, eqb}
 use lib.ListN.{length, take, drop, length-map}
 use lib.Seq.{take-at, drop-at}
-use borrow.Author.Tests.{leb-true, eqb-true, eqb-false}
+use borrow.Author.Tests.{leb-true, eqb-true, eqb-false, not-false}
 use Rattle.lists.specs.Lists.{pick, countOf, total, every, All}
+use Rattle.lists.proofs.Tests.{and-true}
+use Rattle.lists.proofs.Checks.{zero-passed}
 use Rattle.lists.proofs.Count.{count-nil}
 use Rattle.lists.proofs.Every.{every-at}
 use Rattle.lists.proofs.Held.{all-nil}
@@ -20,36 +22,34 @@ use Rattle.planner_rules.specs.declared.entry.Status.the-variants.{Open}
 use Rattle.planner_rules.specs.declared.setup.Setup.{Setup}
 use Rattle.planner_rules.specs.declared.plan.Planned.{Planned}
 use Rattle.planner_rules.specs.Exchange.{longest, spans}
-use Rattle.planner_rules.specs.Shares.{share, inRange, ordered, sharesFit, setupNumber}
+use Rattle.planner_rules.specs.Shares.{share, ordered, sharesFit, setupRanged, sharesGood, setupChecks, setupNumber}
 use Rattle.planner_rules.specs.Plan.{ofUnit, taken, alone, turns, nothingPlaced, firstPhase, plan, placedIn, waitingIn, inSlots}
 use Rattle.planner_rules.specs.Demand3.{Proper, askOf, oldest, Demand3}
 use Rattle.planner_rules.proofs.Windows.{Clear, clear-nil, one-window, one-exchange}
 use Rattle.planner_rules.proofs.Passes.{Passed, passed}
-use Rattle.planner_rules.proofs.Keeps.{Numbered, keeps-ends, keeps-clear, keeps-open, keeps-numbers, keeps-ceiling, grows, keeps-all, keeps-order, keeps-each, adds, why-left}
+use Rattle.planner_rules.proofs.Keeps.{Numbered, keeps-ends, keeps-clear, keeps-open, keeps-numbers, keeps-ceiling, grows, keeps-all, keeps-order}
+use Rattle.planner_rules.proofs.Keeps.{keeps-each, adds, why-left}
 use Rattle.planner_rules.proofs.Guarantee.{alone-own, alone-other, afters}
 
 -- a setup that is answered 0: its guarantees are within its ceilings, and they fit
-checked : (b : Bool) (k x : ℕ) → pick (not b) (suc k) x ≡ 0 → (b ≡ true) × (x ≡ 0)
-checked true k x h = (refl, h)
-checked false k x h = absurd (omega arith)
-
 pub record Accepted (s : Setup) : Type 0 where
   pub order : (u : ℕ) → u < 8 → share (s .guarantee) u ≤ share (s .ceiling) u
   pub room : total (share (s .guarantee)) 8 * (longest + s .reach) ≤ s .period
 
 pub accepted : (s : Setup) → setupNumber s ≡ 0 → Accepted s
-unfolding setupNumber sharesFit
+unfolding setupNumber setupChecks sharesFit
 accepted s h =
-    let a = checked (leb (s .reach) 13000) 1 _ h in
-    let b = checked (leb (s .limit) 12) 1 _ (a .1) in
-    let c = checked (every (inRange (s .guarantee)) 8) 1 _ (b .1) in
-    let d = checked (every (inRange (s .ceiling)) 8) 1 _ (c .1) in
-    let e = checked (every (ordered (s .guarantee) (s .ceiling)) 8) 2 _ (d .1) in
-    let f = checked (leb (total (share (s .guarantee)) 8 * (longest + s .reach)) (s .period)) 2 _ (e .1) in
+    let g = not-false (sharesGood s) (zero-passed (setupChecks s) refl h .off 3) in
+    let e = and-true (every (ordered (s .guarantee) (s .ceiling)) 8) (sharesFit s) g in
     record {
       order = λ u l. leb-true _ _ (every-at (ordered (s .guarantee) (s .ceiling)) 8 u (e .0) l);
-      room = leb-true _ _ (f .0);
+      room = leb-true _ _ (e .1);
     }
+
+-- and its numbers are in their ranges
+pub setup-in : (s : Setup) → setupNumber s ≡ 0 → setupRanged s ≡ true
+unfolding setupNumber setupChecks
+setup-in s h = not-false (setupRanged s) (zero-passed (setupChecks s) refl h .off 2)
 
 -- the limits of each pass are within the ceilings
 pub Within : Setup → List ℕ → Type 0
@@ -60,7 +60,9 @@ unfolding Within
 turn-within s ok n h v = go (eqb v n) refl
   where
     go : (b : Bool) → eqb v n ≡ b → share (alone n (s .guarantee)) v ≤ share (s .ceiling) v
-    go true e = subst (λ (k : ℕ). share (alone n (s .guarantee)) k ≤ share (s .ceiling) k) (sym (eqb-true v n e)) (omega (arith, alone-own n (s .guarantee) h, ok .order n h))
+    go true e =
+        subst (λ (k : ℕ). share (alone n (s .guarantee)) k ≤ share (s .ceiling) k) (sym (eqb-true v n e))
+        (omega (arith, alone-own n (s .guarantee) h, ok .order n h))
     go false e = omega (arith, alone-other n v (s .guarantee) (eqb-false v n e))
 
 -- what each pass keeps holds of the plan
@@ -73,7 +75,8 @@ module _ (s : Setup) (ok : Accepted s) (w : List Ask) (Q : List Entry → List A
 
   pub of-plan : Q (plan s w .placed) (plan s w .waiting)
   unfolding plan Within
-  of-plan = step (s .ceiling) (λ v. le-refl _) _ _ _ _ (passed (s .period) (s .ceiling) (firstPhase s w .placed) (firstPhase s w .waiting)) (of-turns 8 (le-refl 8))
+  of-plan =
+      step (s .ceiling) (λ v. le-refl _) _ _ _ _ (passed (s .period) (s .ceiling) (firstPhase s w .placed) (firstPhase s w .waiting)) (of-turns 8 (le-refl 8))
 
 module _ (s : Setup) (ok : Accepted s) (w : List Ask) (pw : All (Proper s) w) where
   -- the second phase
@@ -98,7 +101,8 @@ module _ (s : Setup) (ok : Accepted s) (w : List Ask) (pw : All (Proper s) w) wh
   second-part : Sublistᴰ (map askOf (drop (length (oldest (s .guarantee) 8 w)) (plan s w .placed))) w
   second-part =
       let a = adds second in
-      let e : drop (length (oldest (s .guarantee) 8 w)) (plan s w .placed) ≡ a .new = ap (drop (length (oldest (s .guarantee) 8 w))) (a .behind) ∙ drop-at (firstPhase s w .placed) (a .new) (length (oldest (s .guarantee) 8 w)) first-count in
+      let e : drop (length (oldest (s .guarantee) 8 w)) (plan s w .placed) ≡ a .new = ap (drop (length (oldest (s .guarantee) 8 w))) (a .behind) ∙ drop-at
+      (firstPhase s w .placed) (a .new) (length (oldest (s .guarantee) 8 w)) first-count in
       rw e
       (Sublistᴰ·trans (a .byAge)
       (of-turns s ok w (λ es v. Sublistᴰ v w) (Sublistᴰ·refl w) (λ limits k es es′ w w′ r h. Sublistᴰ·trans (keeps-order r) h) 8 (le-refl 8)))
@@ -126,7 +130,8 @@ pub demand3 : (s : Setup) → setupNumber s ≡ 0 → (w : List Ask) → All (Pr
 demand3 s h w pw = shown s (accepted s h) w pw
 
 -- the same of what `make_plan` answers: the entries and the requests left, as its caller reads them
-pub demand3-of-answer : (s : Setup) → setupNumber s ≡ 0 → (w : List Ask) → All (Proper s) w → (old : List Entry) (base : List Ask) (r : Planned) → r ≡ inSlots (plan s w) old base → Demand3 s w (placedIn r) (waitingIn r)
+pub demand3-of-answer : (s : Setup) → setupNumber s ≡ 0 → (w : List Ask) → All (Proper s) w → (old : List Entry) (base : List Ask) (r : Planned)
+    → r ≡ inSlots (plan s w) old base → Demand3 s w (placedIn r) (waitingIn r)
 demand3-of-answer s h w pw old base r e =
     rw (e, take-over (plan s w .placed) old, take-over (plan s w .waiting) base) (demand3 s h w pw)
 

@@ -36,10 +36,12 @@ numbered-snoc L es a t p h z k l =
     let n : length (es ++ (entryAt a t ∷ [])) ≡ suc (length es) = simp length-append (omega arith) in
     ⊎-elim last before (eq-or-lt-of-le (le-of-suc-le-suc (subst (λ (m : ℕ). k < m) n l)))
   where
-    last : k ≡ length es → place L (take k (es ++ (entryAt a t ∷ []))) (getD (es ++ (entryAt a t ∷ [])) k z .ask) ≡ At (getD (es ++ (entryAt a t ∷ [])) k z .start)
+    last : k ≡ length es
+        → place L (take k (es ++ (entryAt a t ∷ []))) (getD (es ++ (entryAt a t ∷ [])) k z .ask) ≡ At (getD (es ++ (entryAt a t ∷ [])) k z .start)
     last e = rw (e, take-append-seam es (entryAt a t ∷ []), getD-append-seam es (entryAt a t) [] z) p
 
-    before : k < length es → place L (take k (es ++ (entryAt a t ∷ []))) (getD (es ++ (entryAt a t ∷ [])) k z .ask) ≡ At (getD (es ++ (entryAt a t ∷ [])) k z .start)
+    before : k < length es
+        → place L (take k (es ++ (entryAt a t ∷ []))) (getD (es ++ (entryAt a t ∷ [])) k z .ask) ≡ At (getD (es ++ (entryAt a t ∷ [])) k z .start)
     before b =
         let le : k ≤ length es = omega arith in
         rw (take-append-le k es (entryAt a t ∷ []) le, List·getD-append es (entryAt a t ∷ []) z k b) (h z k b)
@@ -82,7 +84,8 @@ pub record Added (es es′ : List Entry) (w : List Ask) : Type 0 where
   pub byAge : Sublistᴰ (map askOf new) w
 
 module _ {L : ℕ} {limits : List ℕ} where
-  pub keeps-ends : {es es′ : List Entry} {w w′ : List Ask} → Passed L limits es w es′ w′ → All (λ (e : Entry). spans e .hi ≤ L) es → All (λ (e : Entry). spans e .hi ≤ L) es′
+  pub keeps-ends : {es es′ : List Entry} {w w′ : List Ask} → Passed L limits es w es′ w′ → All (λ (e : Entry). spans e .hi ≤ L) es
+      → All (λ (e : Entry). spans e .hi ≤ L) es′
   keeps-ends done h = h
   keeps-ends (put {es = es} a t c p r) h = keeps-ends r (all-snoc _ es (entryAt a t) h (fits-ends L es (entryAt a t) (at-fits L es a t p)))
   keeps-ends (stay a c r) h = keeps-ends r h
@@ -92,7 +95,8 @@ module _ {L : ℕ} {limits : List ℕ} where
   keeps-clear (put {es = es} a t c p r) h = keeps-clear r (clear-snoc es (entryAt a t) (fits-clear L es (entryAt a t) (at-fits L es a t p)) h)
   keeps-clear (stay a c r) h = keeps-clear r h
 
-  pub keeps-open : {es es′ : List Entry} {w w′ : List Ask} → Passed L limits es w es′ w′ → All (λ (e : Entry). e .status ≡ Open) es → All (λ (e : Entry). e .status ≡ Open) es′
+  pub keeps-open : {es es′ : List Entry} {w w′ : List Ask} → Passed L limits es w es′ w′ → All (λ (e : Entry). e .status ≡ Open) es
+      → All (λ (e : Entry). e .status ≡ Open) es′
   keeps-open done h = h
   keeps-open (put {es = es} a t c p r) h = keeps-open r (all-snoc _ es (entryAt a t) h refl)
   keeps-open (stay a c r) h = keeps-open r h
@@ -121,7 +125,8 @@ module _ {L : ℕ} {limits : List ℕ} where
   grows f (stay a c r) = grows f r
 
   -- each request is placed or waits, once
-  pub keeps-all : {es es′ : List Entry} {w w′ : List Ask} (f : Ask → Bool) → Passed L limits es w es′ w′ → countOf (λ (e : Entry). f (e .ask)) es′ + countOf f w′ ≡ countOf (λ (e : Entry). f (e .ask)) es + countOf f w
+  pub keeps-all : {es es′ : List Entry} {w w′ : List Ask} (f : Ask → Bool) → Passed L limits es w es′ w′
+      → countOf (λ (e : Entry). f (e .ask)) es′ + countOf f w′ ≡ countOf (λ (e : Entry). f (e .ask)) es + countOf f w
   keeps-all f done = refl
   keeps-all f (put {es = es} {w = w} a t c p r) = omega (arith, keeps-all f r, count-snoc (λ (e : Entry). f (e .ask)) es (entryAt a t), count-cons f a w)
   keeps-all f (stay {w = w} {w′ = w′} a c r) = omega (arith, keeps-all f r, count-cons f a w, count-cons f a w′)

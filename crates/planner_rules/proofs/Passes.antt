@@ -23,8 +23,10 @@ use Rattle.planner_rules.specs.Plan.{taken, Board, tried, stays, pass, a
 -- the list is done; a request is put behind those placed; or it stays
 pub data Passed (L : ℕ) (limits : List ℕ) : List Entry → List Ask → List Entry → List Ask → Type 0 where
   done : {es : List Entry} → Passed L limits es [] es []
-  put : {es es′ : List Entry} {w w′ : List Ask} (a : Ask) (t : ℕ) → taken (a .request .unit) es < share limits (a .request .unit) → place L es a ≡ At t → Passed L limits (es ++ (entryAt a t ∷ [])) w es′ w′ → Passed L limits es (a ∷ w) es′ w′
-  stay : {es es′ : List Entry} {w w′ : List Ask} (a : Ask) → (share limits (a .request .unit) ≤ taken (a .request .unit) es) ⊎ (place L es a ≡ Nowhere) → Passed L limits es w es′ w′ → Passed L limits es (a ∷ w) es′ (a ∷ w′)
+  put : {es es′ : List Entry} {w w′ : List Ask} (a : Ask) (t : ℕ) → taken (a .request .unit) es < share limits (a .request .unit) → place L es a ≡ At t
+      → Passed L limits (es ++ (entryAt a t ∷ [])) w es′ w′ → Passed L limits es (a ∷ w) es′ w′
+  stay : {es es′ : List Entry} {w w′ : List Ask} (a : Ask) → (share limits (a .request .unit) ≤ taken (a .request .unit) es) ⊎ (place L es a ≡ Nowhere)
+      → Passed L limits es w es′ w′ → Passed L limits es (a ∷ w) es′ (a ∷ w′)
 
 module _ (L : ℕ) (limits : List ℕ) where
   abbrev Tried : List Entry → Ask → Place → Type 0
@@ -65,7 +67,8 @@ module _ {L : ℕ} {limits : List ℕ} where
   longer (stay a c r) = longer r
 
 -- the same of the turns
-pub turns-sizes : (L : ℕ) (shares : List ℕ) (n : ℕ) (b : Board) → length (turns L shares n b .placed) + length (turns L shares n b .waiting) ≡ length (b .placed) + length (b .waiting)
+pub turns-sizes : (L : ℕ) (shares : List ℕ) (n : ℕ) (b : Board)
+    → length (turns L shares n b .placed) + length (turns L shares n b .waiting) ≡ length (b .placed) + length (b .waiting)
 unfolding turns
 turns-sizes L shares zero b = refl
 turns-sizes L shares (suc n) b = sizes (passed L (alone n shares) (turns L shares n b .placed) (turns L shares n b .waiting)) ∙ turns-sizes L shares n b

@@ -87,13 +87,16 @@ module _ (d e : Entry) (h : clear d e ≡ true) where
 
 -- a tick of one exchange lies in no window of those that it is clear of
 module _ (x : ℕ) where
-  free : (d : Entry) (es : List Entry) → clearOf d es ≡ true → (holds x (transmits d) ≡ true) ⊎ (holds x (listens d) ≡ true) → countOf (holds x) (windows es) ≡ 0
+  free : (d : Entry) (es : List Entry) → clearOf d es ≡ true → (holds x (transmits d) ≡ true) ⊎ (holds x (listens d) ≡ true)
+      → countOf (holds x) (windows es) ≡ 0
   unfolding clearOf windows
   free d [] h k = count-nil (holds x)
   free d (e ∷ es) h k =
       let c = and-left (clear d e) (clearOf d es) h in
-      let t : holds x (transmits e) ≡ false = ⊎-elim (λ q. apart-out (transmits d) (transmits e) x (apart-tt d e c) q) (λ q. apart-out (listens d) (transmits e) x (apart-lt d e c) q) k in
-      let l : holds x (listens e) ≡ false = ⊎-elim (λ q. apart-out (transmits d) (listens e) x (apart-tl d e c) q) (λ q. apart-out (listens d) (listens e) x (apart-ll d e c) q) k in
+      let t : holds x (transmits e) ≡ false = ⊎-elim (λ q. apart-out (transmits d) (transmits e) x (apart-tt d e c) q)
+      (λ q. apart-out (listens d) (transmits e) x (apart-lt d e c) q) k in
+      let l : holds x (listens e) ≡ false = ⊎-elim (λ q. apart-out (transmits d) (listens e) x (apart-tl d e c) q)
+      (λ q. apart-out (listens d) (listens e) x (apart-ll d e c) q) k in
       count-no (holds x) _ _ t ∙ count-no (holds x) _ _ l ∙ free d es (and-right (clear d e) (clearOf d es) h) k
 
   -- its own transmission is over before it listens
@@ -108,9 +111,11 @@ module _ (x : ℕ) where
   one-window [] c = omega (arith, count-nil (holds x))
   one-window (e ∷ es) c = go (holds x (transmits e)) refl (holds x (listens e)) refl (one-window es (c .1))
     where
-      go : (s : Bool) → holds x (transmits e) ≡ s → (t : Bool) → holds x (listens e) ≡ t → countOf (holds x) (windows es) ≤ 1 → countOf (holds x) (transmits e ∷ listens e ∷ windows es) ≤ 1
+      go : (s : Bool) → holds x (transmits e) ≡ s → (t : Bool) → holds x (listens e) ≡ t → countOf (holds x) (windows es) ≤ 1
+          → countOf (holds x) (transmits e ∷ listens e ∷ windows es) ≤ 1
       go true p t q ih = omega (arith, count-yes (holds x) (transmits e) (listens e ∷ windows es) p, count-no (holds x) (listens e) (windows es) (own e p), free e es (c .0) (inl p))
-      go false p true q ih = omega (arith, count-no (holds x) (transmits e) (listens e ∷ windows es) p, count-yes (holds x) (listens e) (windows es) q, free e es (c .0) (inr q))
+      go false p true q ih =
+          omega (arith, count-no (holds x) (transmits e) (listens e ∷ windows es) p, count-yes (holds x) (listens e) (windows es) q, free e es (c .0) (inr q))
       go false p false q ih = omega (arith, count-no (holds x) (transmits e) (listens e ∷ windows es) p, count-no (holds x) (listens e) (windows es) q)
 
   -- the same of exchanges with one aircraft
@@ -124,7 +129,8 @@ module _ (x : ℕ) where
         count-no (underWay x address) e es (go c q (eqb (e .ask .request .address) address) refl (and-right (eqb (d .ask .request .address) address) _ k))
         ∙ alone d es (and-right (clear d e) (clearOf d es) h) k
       where
-        go : clear d e ≡ true → d .ask .request .address ≡ address → (b : Bool) → eqb (e .ask .request .address) address ≡ b → holds x (spans d) ≡ true → (b && holds x (spans e)) ≡ false
+        go : clear d e ≡ true → d .ask .request .address ≡ address → (b : Bool) → eqb (e .ask .request .address) address ≡ b → holds x (spans d) ≡ true
+            → (b && holds x (spans e)) ≡ false
         go c q true p i = apart-out (spans d) (spans e) x (apart-whole d e c (eq-eqb _ _ (q ∙ sym (eqb-true _ _ p)))) i
         go c q false p i = refl
 

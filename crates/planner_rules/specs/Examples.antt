@@ -10,6 +10,7 @@ use Rattle.planner_rules.specs.declared.entry.Entry.{Entry}
 use Rattle.planner_rules.specs.declared.setup.Setup.{Setup}
 use Rattle.planner_rules.specs.Exchange.{Course, constants, sentShort, sentLong, sentFor, replyFor, courseOf, exchangeOf, apart, clear}
 use Rattle.planner_rules.specs.Fits.{clearOf, fits, first, place}
+use Rattle.lists.specs.Checks.{checked}
 use Rattle.planner_rules.specs.Shares.{sharesFit, setupNumber}
 use Rattle.planner_rules.specs.Plan.{Board, tried, pass, alone, turns, plan}
 use Rattle.planner_rules.specs.Told.{EntryShown, withoutIt, toldBy}
@@ -48,7 +49,7 @@ listing =
     ∷ []
 
 pub edges-agree : Agrees listing
-unfolding countOf total every sentFor replyFor apart clear clearOf fits first place sharesFit setupNumber tried pass alone turns plan
+unfolding checked countOf total every sentFor replyFor apart clear clearOf fits first place sharesFit setupNumber tried pass alone turns plan
 edges-agree = (refl, (refl, (refl, (refl, (refl, tt)))))
 
 -- ---- exchanges: sent, from and to, in ticks from the start
@@ -169,7 +170,7 @@ unfolding sentFor replyFor
 exchanges-agree = (refl, (refl, (refl, (refl, (refl, (refl, (refl, (refl, tt))))))))
 
 setups-agree : Agrees setups
-unfolding total every sharesFit setupNumber
+unfolding checked total every sharesFit setupNumber
 setups-agree = (refl, (refl, (refl, (refl, (refl, (refl, tt))))))
 
 plans-agree : Agrees plans

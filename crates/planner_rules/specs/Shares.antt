@@ -1,10 +1,11 @@
--- Shares: when they fit, and the number that a setup is answered.
+-- Shares: when they fit, and the checks of a setup.
 use Prim.Native.Nat.{ℕ, _+_, _*_}
-use mathlib.Core.Bool.{Bool, not}
-use mathlib.Core.List.{List}
+use mathlib.Core.Bool.{Bool, not, _&&_}
+use mathlib.Core.List.{List, [], _∷_}
 use lib.Dec.{leb}
 use lib.ListN.{getD}
-use Rattle.lists.specs.Lists.{pick, total, every}
+use Rattle.lists.specs.Lists.{total, every}
+use Rattle.lists.specs.Checks.{Check, check, given}
 use Rattle.planner_rules.specs.declared.setup.Setup.{Setup}
 use Rattle.planner_rules.specs.Exchange.{longest}
 
@@ -24,12 +25,19 @@ ordered g c u = leb (share g u) (share c u)
 unfoldable pub sharesFit : Setup → Bool
 sharesFit s = leb (total (share (s .guarantee)) 8 * (longest + s .reach)) (s .period)
 
--- the number of a setup: 2 for a number out of its range (a period has 16 bits), 3 for a guarantee above its ceiling or shares that do not fit
+-- 2: "correction limit 0 to 12 .. reach R 0 to 13,000; guarantee and ceiling 0 to 16"; a period has 16 bits
+abbrev pub setupRanged : Setup → Bool
+setupRanged s = leb (s .reach) 13000 && leb (s .limit) 12 && every (inRange (s .guarantee)) 8 && every (inRange (s .ceiling)) 8
+
+-- 3: "a guarantee above its ceiling, or shares that do not fit"
+abbrev pub sharesGood : Setup → Bool
+sharesGood s = every (ordered (s .guarantee) (s .ceiling)) 8 && sharesFit s
+
+-- the checks of a setup
+unfoldable pub setupChecks : Setup → List Check
+setupChecks s = check 2 (not (setupRanged s)) ∷ check 3 (not (sharesGood s)) ∷ []
+
+-- the number that a setup is answered
 unfoldable pub setupNumber : Setup → ℕ
-setupNumber s =
-    pick (not (leb (s .reach) 13000)) 2
-    (pick (not (leb (s .limit) 12)) 2
-    (pick (not (every (inRange (s .guarantee)) 8)) 2
-    (pick (not (every (inRange (s .ceiling)) 8)) 2
-    (pick (not (every (ordered (s .guarantee) (s .ceiling)) 8)) 3
-    (pick (not (sharesFit s)) 3 0)))))
+unfolding setupChecks
+setupNumber s = given (setupChecks s)

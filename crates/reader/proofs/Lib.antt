@@ -1,2 +1,3 @@
--- Laws of the numbers in a body, for the proofs of the calls.
+-- Laws for the proofs of the calls: of the numbers in a body, and of the table of a place.
 pub mod Numbers
+pub mod Places

@@ -1,7 +1,7 @@
 // The calls on a reader. Thin functions over it leave the work to those on stream and place.
 ghost use mathlib.Core.Path.{_≡_};
-ghost use Rattle.reader_rules.specs.Answers.{foundSaid, toldAt};
-ghost use Rattle.reader_rules.specs.Readers.{readerAt, toldBy, movedOn};
+ghost use Rattle.reader_rules.specs.Answers.{foundSaid, saidAt};
+ghost use Rattle.reader_rules.specs.Readers.{readerAt, saidBy, movedOn};
 use crate::reading::next_place;
 use crate::reading::record_at;
 use reader_rules::Found;
@@ -16,7 +16,7 @@ pub fn reader_at<'a>(stream: &'a [u8], place: usize) -> Reader<'a>
 
 // What the reader finds where it is.
 pub fn found_by<'a>(r: Reader<'a>) -> Found
-    ensures { λ f. ⌜ foundSaid f ≡ toldBy (r .entry) ⌝ }
+    ensures { λ f. ⌜ foundSaid f ≡ saidBy (r .entry) ⌝ }
 {
     record_at(r.stream, r.place)
 }
@@ -33,7 +33,7 @@ pub fn next<'a>(r: Reader<'a>) -> Reader<'a>
 
 // What a reader at a place finds: of plain parameters, for covered code to call.
 pub fn found_at(s: &[u8], at: usize) -> Found
-    ensures { λ r. ⌜ foundSaid r ≡ toldAt (now (s .entry)) at ⌝ }
+    ensures { λ r. ⌜ foundSaid r ≡ saidAt (now (s .entry)) at ⌝ }
 {
     found_by(reader_at(s, at))
 }

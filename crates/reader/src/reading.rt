@@ -2,7 +2,7 @@
 ghost use mathlib.Core.Path.{_≡_};
 ghost use Prim.Native.Nat.{_+_, _^_, _≤_, _<_, min};
 ghost use lib.ListN.{length, getD};
-ghost use Rattle.reader_rules.specs.Answers.{foundSaid, toldAt};
+ghost use Rattle.reader_rules.specs.Answers.{foundSaid, saidAt};
 ghost use Rattle.reader_rules.specs.Records.{numberAt, recordAt, nextPlace};
 use crate::kinds::body_length;
 use reader_rules::Found;
@@ -54,7 +54,7 @@ fn wide(b: u8) -> u64
 
 // What stands at a place.
 pub fn record_at(s: &[u8], at: usize) -> Found
-    ensures { λ r. ⌜ foundSaid r ≡ toldAt (now (s .entry)) at ⌝ }
+    ensures { λ r. ⌜ foundSaid r ≡ saidAt (now (s .entry)) at ⌝ }
 {
     if s.len() <= at {
         return Found::End;

@@ -1,17 +1,18 @@
 -- What stands at a place is answered in one way: answers that say the same are the same, and the number is that of document 01's table.
-use borrow.Author.Tests.{lt-ltb, le-ltb, leb-true, leb-false}
-use Prim.Native.Nat.{ℕ, _+_, _-_}
+use Prim.Native.Nat.{ℕ}
 use mathlib.Core.Path.{_≡_, refl, sym, ap, _∙_}
-use mathlib.Core.Bool.{Bool, true, false, _&&_, not}
+use mathlib.Core.Bool.{Bool, true, false}
 use mathlib.Core.List.{List}
-use lib.Dec.{eqb, leb, ltb}
+use lib.Dec.{eqb, ltb}
 use lib.ListN.{length, getD}
 use Rattle.lists.specs.Lists.{pick}
+use Rattle.lists.specs.Answers.{Answer}
 use Rattle.lists.specs.Checks.{checked, given}
+use Rattle.lists.proofs.Checks.{view}
 use Rattle.reader_rules.specs.declared.reading.Found.{Found}
 use Rattle.reader_rules.specs.declared.reading.Found.the-variants.{End, Unknown, Cut, Whole}
-use Rattle.reader_rules.specs.Records.{bodyLength, recordAt}
-use Rattle.reader_rules.specs.Answers.{Answer, foundSaid, foundNumber, toldAt, placeChecks}
+use Rattle.reader_rules.specs.Records.{placeChecks, notWhole, wholeOrEnd, recordAt}
+use Rattle.reader_rules.specs.Answers.{foundSaid, foundNumber, saidAt}
 
 -- the i-th value
 at : Answer → ℕ → ℕ
@@ -34,28 +35,17 @@ found-back (Whole kind body next) = refl
 pub found-one : (a b : Found) → foundSaid a ≡ foundSaid b → a ≡ b
 found-one a b e = sym (found-back a) ∙ ap foundBy e ∙ found-back b
 
-pub found-is : (s : List ℕ) (place : ℕ) (x : Found) → foundSaid x ≡ toldAt s place → x ≡ recordAt s place
-unfolding toldAt
+pub found-is : (s : List ℕ) (place : ℕ) (x : Found) → foundSaid x ≡ saidAt s place → x ≡ recordAt s place
+unfolding saidAt
 found-is s place x e = found-one x (recordAt s place) e
 
 -- ---- 16 and 17 exactly when the table says
-number-by : (p q r : Bool) (kind body next : ℕ)
-    → foundNumber (pick p End (pick q (Unknown kind) (pick r (Cut kind) (Whole kind body next)))) ≡ pick (not p && q) 16 (pick (not p && r) 17 0)
-number-by true q r kind body next = refl
-number-by false true r kind body next = refl
-number-by false false true kind body next = refl
-number-by false false false kind body next = refl
+none : (b : Bool) (kind body next : ℕ) → foundNumber (pick b (Whole kind body next) End) ≡ 0
+none true kind body next = refl
+none false kind body next = refl
 
-within : (n place : ℕ) → ltb place n ≡ not (leb n place)
-within n place = go (leb n place) refl
-  where
-    go : (b : Bool) → leb n place ≡ b → ltb place n ≡ not b
-    go true e = le-ltb place n (leb-true n place e)
-    go false e = lt-ltb place n (leb-false n place e)
-
-pub number-at : (s : List ℕ) (place : ℕ) → toldAt s place .number ≡ given (placeChecks s place)
-unfolding toldAt recordAt checked
+pub number-at : (s : List ℕ) (place : ℕ) → saidAt s place .number ≡ given (placeChecks s place)
+unfolding saidAt recordAt checked
 number-at s place =
-    rw (within (length s) place)
-    (number-by (leb (length s) place) (eqb (bodyLength (getD s place 0)) 0) (ltb (length s - (place + 1)) (bodyLength (getD s place 0)))
-    (getD s place 0) (place + 1) (place + 1 + bodyLength (getD s place 0)))
+    view foundNumber (placeChecks s place) notWhole (wholeOrEnd s place)
+    ∙ ap (λ (n : ℕ). checked (placeChecks s place) (λ c. foundNumber (notWhole c)) n) (none (ltb place (length s)) _ _ _)

@@ -3,4 +3,4 @@ pub mod Steps
 pub mod Answers
 pub mod Parts
 pub mod Readers
-mod Examples
+pub mod Examples

@@ -9,17 +9,17 @@ use Rattle.reader_rules.specs.declared.reader.Reader.{Reader}
 use Rattle.reader_rules.specs.declared.reading.Found.{Found}
 use Rattle.reader_rules.specs.declared.reading.Found.the-variants.{End, Unknown, Cut, Whole}
 use Rattle.reader_rules.specs.Records.{bodyLength, recordAt, nextPlace}
-use Rattle.reader_rules.specs.Readers.{readerAt, foundBy, toldBy, movedOn, movedBy}
-use Rattle.reader_rules.specs.Answers.{foundSaid, toldAt}
+use Rattle.reader_rules.specs.Readers.{readerAt, foundBy, saidBy, movedOn, movedBy}
+use Rattle.reader_rules.specs.Answers.{foundSaid, saidAt}
 use Rattle.reader_rules.proofs.Steps.{whole-fits}
 
 pub found-there : (s : RefT (List ℕ)) (at : ℕ) → foundBy (readerAt s at) ≡ recordAt (now s) at
 found-there s at = refl
 
 -- and that is what it answers
-pub told-by-found : (r : Reader) → toldBy r ≡ foundSaid (foundBy r)
-unfolding toldAt
-told-by-found r = refl
+pub said-by-found : (r : Reader) → saidBy r ≡ foundSaid (foundBy r)
+unfolding saidAt
+said-by-found r = refl
 
 -- ---- the reader goes on, in the same stream
 pub stream-kept : (k : ℕ) (r : Reader) → movedBy k r .stream ≡ r .stream

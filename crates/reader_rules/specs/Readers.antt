@@ -2,10 +2,11 @@
 use Prim.Native.Nat.{ℕ, zero, suc}
 use mathlib.Core.List.{List}
 use denote.Ref.{RefT, now}
+use Rattle.lists.specs.Answers.{Answer}
 use Rattle.reader_rules.specs.declared.reader.Reader.{Reader}
 use Rattle.reader_rules.specs.declared.reading.Found.{Found}
 use Rattle.reader_rules.specs.Records.{recordAt, nextPlace}
-use Rattle.reader_rules.specs.Answers.{Answer, toldAt}
+use Rattle.reader_rules.specs.Answers.{saidAt}
 
 -- a reader of a stream at a place
 abbrev pub readerAt : RefT (List ℕ) → ℕ → Reader
@@ -16,8 +17,8 @@ abbrev pub foundBy : Reader → Found
 foundBy r = recordAt (now (r .stream)) (r .place)
 
 -- what is answered for it
-abbrev pub toldBy : Reader → Answer
-toldBy r = toldAt (now (r .stream)) (r .place)
+abbrev pub saidBy : Reader → Answer
+saidBy r = saidAt (now (r .stream)) (r .place)
 
 -- the reader at the next record, of the same stream
 abbrev pub movedOn : Reader → Reader

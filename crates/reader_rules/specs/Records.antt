@@ -2,8 +2,10 @@
 use Prim.Native.Nat.{ℕ, zero, suc, _+_, _-_, _*_}
 use mathlib.Core.List.{List, [], _∷_}
 use lib.ListN.{length, getD}
-use lib.Dec.{eqb, leb, ltb}
+use mathlib.Core.Bool.{_&&_}
+use lib.Dec.{eqb, ltb}
 use Rattle.lists.specs.Lists.{pick}
+use Rattle.lists.specs.Checks.{Check, checkWith, checked}
 use Rattle.reader_rules.specs.declared.reading.Found.{Found}
 use Rattle.reader_rules.specs.declared.reading.Found.the-variants.{End, Unknown, Cut, Whole}
 
@@ -21,13 +23,26 @@ unfoldable pub numberAt : List ℕ → ℕ → ℕ → ℕ
 numberAt s at zero = 0
 numberAt s at (suc k) = numberAt s at k * 256 + getD s (at + k) 0
 
--- what stands at a place: nothing; an unknown kind; a kind whose body is cut by the end; a record with its kind, its body's place and the place after it
+-- the lines of document 01's table that a place before the end can meet, each with the byte of kind beside it, 16: "unknown record kind"; 17: "record cut by
+-- the end of the stream"
+unfoldable pub placeChecks : List ℕ → ℕ → List Check
+placeChecks s at =
+    checkWith 16 (getD s at 0) (ltb at (length s) && eqb (bodyLength (getD s at 0)) 0)
+    ∷ checkWith 17 (getD s at 0) (ltb at (length s) && ltb (length s - (at + 1)) (bodyLength (getD s at 0)))
+    ∷ []
+
+-- what stands there by such a line: an unknown kind, or a kind whose body is cut
+abbrev pub notWhole : Check → Found
+notWhole c = pick (eqb (c .number) 16) (Unknown (c .beside)) (Cut (c .beside))
+
+-- what stands there else: a record with its kind, its body's place and the place after it; nothing at the end
+abbrev pub wholeOrEnd : List ℕ → ℕ → Found
+wholeOrEnd s at = pick (ltb at (length s)) (Whole (getD s at 0) (at + 1) (at + 1 + bodyLength (getD s at 0))) End
+
+-- what stands at a place
 unfoldable pub recordAt : List ℕ → ℕ → Found
-recordAt s at =
-    pick (leb (length s) at) End
-    (pick (eqb (bodyLength (getD s at 0)) 0) (Unknown (getD s at 0))
-    (pick (ltb (length s - (at + 1)) (bodyLength (getD s at 0))) (Cut (getD s at 0))
-    (Whole (getD s at 0) (at + 1) (at + 1 + bodyLength (getD s at 0)))))
+unfolding placeChecks
+recordAt s at = checked (placeChecks s at) notWhole (wholeOrEnd s at)
 
 -- the place of the next record: after a whole one; at the end of the stream, at an unknown kind and at a cut record there is none, and it stays
 unfoldable pub nextPlace : Found → ℕ → ℕ

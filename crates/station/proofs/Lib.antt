@@ -4,5 +4,5 @@ pub mod Leaves
 pub mod Ticks
 pub mod Trials
 pub mod Settling
-pub mod Checks
+pub mod Replying
 pub mod Joining

@@ -31,4 +31,5 @@ module _ (e : Entry) (s start edge : ℕ) (a : start ≡ e .start) where
 -- a reply that is taken starts before the window's end
 pub before-end : (e : Entry) (s : ℕ) → inWindow e s ≡ true → s ≤ e .start + latest + e .ask .far
 unfolding inWindow
-before-end e s h = leb-true s (e .start + latest + e .ask .far) (and-true (leb (e .start + earliest + e .ask .near) s) (leb s (e .start + latest + e .ask .far)) h .1)
+before-end e s h =
+    leb-true s (e .start + latest + e .ask .far) (and-true (leb (e .start + earliest + e .ask .near) s) (leb s (e .start + latest + e .ask .far)) h .1)

@@ -1,33 +1,35 @@
--- A correction in a buffer of its own says what one in the caller's buffer does.
-use mathlib.Core.Path.{_≡_, refl, sym, ap, subst, _∙_}
-use mathlib.Core.List.{List, [], _∷_, _++_}
-use mathlib.Core.Bool.{Bool, true, false, _&&_}
+-- A correction on trial in a buffer of its own says what one in the caller's buffer does.
+use mathlib.Core.Path.{_≡_, refl, sym, ap, _∙_}
+use mathlib.Core.List.{List, _++_}
+use mathlib.Core.Bool.{Bool, true, false, not, _&&_}
 use mathlib.Core.Logic.{_⊎_, inl, inr, ⊎-elim}
 use native.Mathlib.Omega.{arith}
 use Prim.Native.Nat.{ℕ, _≤_, _<_}
-use borrow.Author.Tests.{eqb-true, eqb-false, eq-eqb, ne-eqb}
-use lib.Dec.{eqb, leb}
+use borrow.Author.Tests.{eqb-true, eq-eqb, ne-eqb}
+use lib.Dec.{eqb}
 use lib.ListN.{length, take, replicate, length-append}
 use lib.Seq.{length-take-le}
-use Rattle.lists.specs.Lists.{pick}
+use Rattle.lists.specs.Checks.{Check, checked, given, numbered}
+use Rattle.lists.proofs.Checks.{view, join, all, stop, end, not-on, not-off, zero-done, number-refused}
 use Rattle.lists.proofs.Tests.{and-true, or-true}
 use Rattle.parity_rules.specs.declared.answers.Fix.{Fix}
-use Rattle.parity_rules.specs.declared.answers.Fix.the-variants.{Flips, Length, Range, Marks, NoMatch, Doubt}
-use Rattle.parity_rules.specs.Answers.{Outcome, said, refused, fixNumber, flipsOf}
-use Rattle.parity_rules.specs.Messages.{bits, whole}
-use Rattle.parity_rules.specs.Correction.{sizeOf, matching, sought, byMatches, sized, ranged, correction}
+use Rattle.parity_rules.specs.Messages.{sevenOrFourteen}
+use Rattle.parity_rules.specs.Answers.{Correction, fixSaid, notCorrected, fixNumber, flipsOf}
+use Rattle.parity_rules.specs.Correction.{matchesOf, flippedBy, sized, markChecks, correctionChecks, correction}
 use Rattle.frames_rules.specs.Reading.{formatOf}
 use Rattle.station.specs.declared.correcting.Corrected.{Corrected}
-use Rattle.station_rules.specs.Replies.{ofFormat}
-use Rattle.station.specs.Trials.{outcome, onTrial}
+use Rattle.station_rules.specs.Replies.{formatChecks, correctedChecks, correctedAs}
+use Rattle.station.specs.Trials.{asCorrection}
 
 -- ---- the lengths of a message and its buffers
 module _ (n marks room : ℕ) (h : sized n marks room ≡ true) where
   pub sized-room : room ≡ n
-  sized-room = eqb-true room n (and-true (eqb marks n) (eqb room n) (and-true (eqb marks n && eqb room n) (whole n) h .0) .1)
+  sized-room = eqb-true room n (and-true (eqb marks n) (eqb room n) (and-true (eqb marks n && eqb room n) (sevenOrFourteen n) h .0) .1)
 
   two : (n ≡ 7) ⊎ (n ≡ 14)
-  two = ⊎-elim (λ e. inl (eqb-true n 7 e)) (λ e. inr (eqb-true n 14 e)) (or-true (eqb n 7) (eqb n 14) (and-true (eqb marks n && eqb room n) (whole n) h .1))
+  two =
+      ⊎-elim (λ e. inl (eqb-true n 7 e)) (λ e. inr (eqb-true n 14 e))
+      (or-true (eqb n 7) (eqb n 14) (and-true (eqb marks n && eqb room n) (sevenOrFourteen n) h .1))
 
   pub sized-most : n ≤ 14
   sized-most = ⊎-elim (λ e. omega arith) (λ e. omega arith) two
@@ -42,88 +44,106 @@ same-as t n e h = e ∙ length-take-le n (replicate {A = ℕ} 14 0) h
 pub share-fits : (t w : List ℕ) (n : ℕ) → length t ≡ n → n ≤ length (t ++ w)
 share-fits t w n e = omega (arith, length-append t w)
 
+abbrev numberIn : Correction → ℕ
+numberIn o = o .number
+
+-- a refusal by its number, with what the buffer then holds
+abbrev refusedAt : List ℕ → ℕ → Correction
+refusedAt out n = record { number = n; flips = 0; output = out }
+
 -- ---- a trial, by the correction's answer
-no-flips : (x : Fix) → (fixNumber x ≡ 0 → ⊥) → flipsOf x ≡ 0
-no-flips (Flips n) h = absurd (h refl)
-no-flips Length h = refl
-no-flips Range h = refl
-no-flips Marks h = refl
-no-flips NoMatch h = refl
-no-flips Doubt h = refl
+module _ (f : ℕ) (msg marks : List ℕ) (overlay limit : ℕ) (out : List ℕ) where
+  abbrev found : Correction
+  found = flippedBy msg (matchesOf msg marks overlay)
 
-module _ (f : ℕ) (x : Fix) (after : List ℕ) (o : Outcome) (e : said x after ≡ o) (n : ℕ) (k : n ≡ fixNumber x) where
-  pub trial-refused : (n ≡ 0 → ⊥) → _≡_ {A = Outcome} (record { number = n; flips = 0; output = after }) (onTrial f o)
-  unfolding onTrial
-  trial-refused z = rw (← e, ne-eqb (fixNumber x) 0 (λ q. z (k ∙ q)), no-flips x (λ q. z (k ∙ q)), k)
+  abbrev own : List Check
+  own = correctionChecks msg marks overlay limit out
 
-  pub trial-other : n ≡ 0 → (m : ℕ) → m ≡ formatOf after → (m ≡ f → ⊥) → _≡_ {A = Outcome} (record { number = 14; flips = 0; output = after }) (onTrial f o)
-  unfolding onTrial
-  trial-other z m g d = rw (← e, eq-eqb (fixNumber x) 0 (sym k ∙ z), ne-eqb (formatOf after) f (λ q. d (g ∙ q)))
+  -- the correction's own lines, then that of the format
+  in-parts : (left : List ℕ)
+      → correctedAs f msg marks overlay limit out left
+      ≡ checked own (notCorrected left) (checked (formatChecks f msg (matchesOf msg marks overlay)) (notCorrected left) found)
+  unfolding correctedAs
+  in-parts left = join own (formatChecks f msg (matchesOf msg marks overlay)) (notCorrected left) found
 
-  pub trial-taken : n ≡ 0 → (m : ℕ) → m ≡ formatOf after → m ≡ f → (l : ℕ) → l ≡ flipsOf x → _≡_ {A = Outcome} (record { number = 0; flips = l; output = after }) (onTrial f o)
-  unfolding onTrial
-  trial-taken z m g d l u =
-      let w : fixNumber x ≡ 0 = sym k ∙ z in
-      rw (← e, eq-eqb (fixNumber x) 0 w, eq-eqb (formatOf after) f (sym g ∙ d), u, w)
+  own-numbered : numbered own ≡ true
+  unfolding correctionChecks
+  own-numbered = refl
+
+  module _ (x : Fix) (t : List ℕ) (e : fixSaid x t ≡ correction msg marks overlay limit out) (n : ℕ) (k : n ≡ fixNumber x) where
+    given-is : n ≡ given own
+    unfolding correction
+    given-is = k ∙ ap numberIn e ∙ view numberIn own (notCorrected out) found
+
+    pub trial-refused : (n ≡ 0 → ⊥) → refusedAt t n ≡ correctedAs f msg marks overlay limit out t
+    trial-refused z =
+        ap (refusedAt t) given-is
+        ∙ number-refused own (checked (formatChecks f msg (matchesOf msg marks overlay)) (notCorrected t) found) own-numbered (refusedAt t)
+        (λ q. z (given-is ∙ q))
+        ∙ sym (in-parts t)
+
+    module _ (z : n ≡ 0) where
+      is-found : fixSaid x t ≡ found
+      unfolding correction
+      is-found = e ∙ sym (zero-done own found own-numbered (notCorrected out) (sym given-is ∙ z))
+
+      by-format : checked (formatChecks f msg (matchesOf msg marks overlay)) (notCorrected t) found ≡ correctedAs f msg marks overlay limit out t
+      by-format =
+          zero-done own (checked (formatChecks f msg (matchesOf msg marks overlay)) (notCorrected t) found) own-numbered (notCorrected t) (sym given-is ∙ z)
+          ∙ sym (in-parts t)
+
+      written : t ≡ found .output
+      written = ap (λ (o : Correction). o .output) is-found
+
+      pub trial-other : (m : ℕ) → m ≡ formatOf t → (m ≡ f → ⊥) → refusedAt t 14 ≡ correctedAs f msg marks overlay limit out t
+      unfolding formatChecks
+      trial-other m g d =
+          stop (notCorrected t) found 14 all tt (not-on _ (ne-eqb (formatOf (found .output)) f (λ q. d (g ∙ ap formatOf written ∙ q)))) ∙ by-format
+
+      pub trial-taken : (m : ℕ) → m ≡ formatOf t → m ≡ f → (l : ℕ) → l ≡ flipsOf x
+          → _≡_ {A = Correction} (record { number = 0; flips = l; output = t }) (correctedAs f msg marks overlay limit out t)
+      unfolding formatChecks
+      trial-taken m g d l u =
+          (rw u (ap (λ (o : Correction). record { number = 0; flips = o .flips; output = o .output }) is-found))
+          ∙ end (notCorrected t) found all (not-off _ (eq-eqb (formatOf (found .output)) f (sym (ap formatOf written) ∙ sym g ∙ d)), tt)
+          ∙ by-format
 
 -- ---- the outcome in one buffer and in another of the same length
-pub data Alike (a b : List ℕ) : Outcome → Outcome → Type 0 where
-  both-refuse : {x y : Outcome} (n : ℕ) → (n ≡ 0 → ⊥) → x ≡ refused n a → y ≡ refused n b → Alike a b x y
-  both-give : {x y : Outcome} → x .number ≡ 0 → x ≡ y → Alike a b x y
+module _ (f : ℕ) (msg marks : List ℕ) (overlay limit : ℕ) (a out t : List ℕ) (same : length a ≡ length out) (r : Corrected)
+    (h : asCorrection r t ≡ correctedAs f msg marks overlay limit a t) where
+  abbrev lines : List Check
+  lines = correctedChecks f msg marks overlay limit out
 
-module _ (a b : List ℕ) where
-  alike-pick : (t : Bool) (x x′ y y′ : Outcome) → Alike a b x x′ → Alike a b y y′ → Alike a b (pick t x y) (pick t x′ y′)
-  alike-pick true x x′ y y′ p q = p
-  alike-pick false x x′ y y′ p q = q
+  lines-are : correctedChecks f msg marks overlay limit a ≡ lines
+  unfolding correctedChecks correctionChecks
+  lines-are = rw same
 
-  not-zero : (k : ℕ) → eqb k 0 ≡ false → k ≡ 0 → ⊥
-  not-zero k e = eqb-false k 0 e
+  lines-numbered : numbered lines ≡ true
+  unfolding correctedChecks correctionChecks formatChecks
+  lines-numbered = refl
 
-  alike-judged : (msg : List ℕ) (ss : List (List ℕ)) → Alike a b (byMatches msg a ss) (byMatches msg b ss)
-  alike-judged msg [] = both-refuse 12 (not-zero 12 refl) refl refl
-  alike-judged msg (s ∷ []) = both-give refl refl
-  alike-judged msg (s ∷ t ∷ r) = both-refuse 13 (not-zero 13 refl) refl refl
+  abbrev one : Correction
+  one = flippedBy msg (matchesOf msg marks overlay)
 
-  pub alike : length a ≡ length b → (msg marks : List ℕ) (overlay limit : ℕ) → Alike a b (correction msg marks overlay limit a) (correction msg marks overlay limit b)
-  unfolding correction
-  alike e msg marks overlay limit =
-      subst (λ (n : ℕ). Alike a b (correction msg marks overlay limit a) (pick (sized (length msg) (length marks) n) (pick (ranged overlay limit) (pick (leb (sizeOf (bits marks)) limit) (byMatches msg b (matching (sought msg overlay) (bits marks))) (refused 11 b)) (refused 2 b)) (refused 1 b))) e
-      (alike-pick (sized (length msg) (length marks) (length a)) _ _ _ _
-      (alike-pick (ranged overlay limit) _ _ _ _
-      (alike-pick (leb (sizeOf (bits marks)) limit) _ _ _ _ (alike-judged msg (matching (sought msg overlay) (bits marks))) (both-refuse 11 (not-zero 11 refl) refl refl))
-      (both-refuse 2 (not-zero 2 refl) refl refl))
-      (both-refuse 1 (not-zero 1 refl) refl refl))
+  here : asCorrection r t ≡ checked lines (notCorrected t) one
+  unfolding correctedAs
+  here = h ∙ ap (λ (cs : List Check). checked cs (notCorrected t) one) lines-are
 
-module _ (f : ℕ) (a b : List ℕ) (r : Corrected) (t : List ℕ) where
+  given-by : r .number ≡ given lines
+  given-by = ap numberIn here ∙ view numberIn lines (notCorrected t) one
+
   -- what the trial refused is refused, and the caller's buffer is as it was
-  pub refused-as : (x y : Outcome) → Alike a b x y → outcome r t ≡ onTrial f x → (r .number ≡ 0 → ⊥) → outcome r b ≡ ofFormat f b y
-  unfolding onTrial ofFormat
-  refused-as x y (both-refuse n z p q) e g =
-      let s : outcome r t ≡ refused n a = e ∙ (rw (p, ne-eqb n 0 z)) in
-      rw (q, ne-eqb n 0 z, ap (λ (w : Outcome). w .number) s, ap (λ (w : Outcome). w .flips) s)
-  refused-as x y (both-give n q) e g = go (eqb (formatOf (x .output)) f) refl
-    where
-      go : (c : Bool) → eqb (formatOf (x .output)) f ≡ c → outcome r b ≡ pick (eqb (y .number) 0) (pick (eqb (formatOf (y .output)) f) y (record { number = 14; flips = 0; output = b })) y
-      go true c =
-          let s : outcome r t ≡ x = e ∙ (rw (eq-eqb (x .number) 0 n, c)) in
-          absurd (g (ap (λ (w : Outcome). w .number) s ∙ n))
-      go false c =
-          let s : outcome r t ≡ record { number = 14; flips = 0; output = x .output } = e ∙ (rw (eq-eqb (x .number) 0 n, c)) in
-          rw (← q, eq-eqb (x .number) 0 n, c, ap (λ (w : Outcome). w .number) s, ap (λ (w : Outcome). w .flips) s)
+  pub refused-as : (r .number ≡ 0 → ⊥) → asCorrection r out ≡ correctedAs f msg marks overlay limit out out
+  unfolding correctedAs
+  refused-as z =
+      let n : given lines ≡ 0 → ⊥ = λ q. z (given-by ∙ q) in
+      let s : asCorrection r t ≡ refusedAt t (given lines) = here ∙ sym (number-refused lines one lines-numbered (refusedAt t) n) in
+      ap (λ (o : Correction). record { number = o .number; flips = o .flips; output = out }) s
+      ∙ number-refused lines one lines-numbered (refusedAt out) n
 
   -- what the trial took is taken
-  pub taken-as : (x y : Outcome) → Alike a b x y → outcome r t ≡ onTrial f x → r .number ≡ 0 → outcome r t ≡ ofFormat f b y
-  unfolding onTrial ofFormat
-  taken-as x y (both-refuse n z p q) e g =
-      let s : outcome r t ≡ refused n a = e ∙ (rw (p, ne-eqb n 0 z)) in
-      absurd (z (sym (ap (λ (w : Outcome). w .number) s) ∙ g))
-  taken-as x y (both-give n q) e g = go (eqb (formatOf (x .output)) f) refl
-    where
-      go : (c : Bool) → eqb (formatOf (x .output)) f ≡ c → outcome r t ≡ pick (eqb (y .number) 0) (pick (eqb (formatOf (y .output)) f) y (record { number = 14; flips = 0; output = b })) y
-      go true c =
-          let s : outcome r t ≡ x = e ∙ (rw (eq-eqb (x .number) 0 n, c)) in
-          rw (← q, eq-eqb (x .number) 0 n, c) s
-      go false c =
-          let s : outcome r t ≡ record { number = 14; flips = 0; output = x .output } = e ∙ (rw (eq-eqb (x .number) 0 n, c)) in
-          let z : _≡_ {A = ℕ} 14 0 = sym (ap (λ (w : Outcome). w .number) s) ∙ g in
-          absurd (omega arith)
+  pub taken-as : r .number ≡ 0 → asCorrection r t ≡ correctedAs f msg marks overlay limit out out
+  unfolding correctedAs
+  taken-as z =
+      here ∙ sym (zero-done lines one lines-numbered (notCorrected t) (sym given-by ∙ z))
+      ∙ zero-done lines one lines-numbered (notCorrected out) (sym given-by ∙ z)

@@ -1,7 +1,9 @@
 // Ages: each plan adds 1 to those present, up to 65,535.
 ghost use mathlib.Core.Path.{_≡_};
 ghost use Rattle.station_rules.specs.State.{ageAfter, valueAfter, older, targetsOlder};
-use crate::slots::live;
+use crate::targets::with_ac;
+use crate::targets::with_id;
+use numbers::live;
 use station_rules::Target;
 use station_rules::Targets;
 use station_rules::Value;
@@ -35,15 +37,8 @@ fn older(x: Target) -> Target
 {
     let ac = x.ac;
     let id = x.id;
-    let next_ac = value_after(ac);
-    let next_id = value_after(id);
-    Target {
-        address: x.address,
-        near: x.near,
-        far: x.far,
-        ac: next_ac,
-        id: next_id,
-    }
+    let y = with_id(value_after(id), x);
+    with_ac(value_after(ac), y)
 }
 
 // The targets after one plan more.

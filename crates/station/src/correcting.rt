@@ -4,10 +4,10 @@ ghost use mathlib.Core.Bool.{true};
 ghost use Prim.Native.Nat.{_<_};
 ghost use lib.ListN.{length};
 ghost use Rattle.parity_rules.specs.Answers.{fixNumber, flipsOf};
-ghost use Rattle.parity_rules.specs.Correction.{sized, correction};
+ghost use Rattle.parity_rules.specs.Correction.{sized};
 ghost use Rattle.frames_rules.specs.Reading.{formatOf};
-ghost use Rattle.station_rules.specs.Replies.{valueIn, ofFormat};
-ghost use Rattle.station.specs.Trials.{outcome, onTrial};
+ghost use Rattle.station_rules.specs.Replies.{valueIn, correctedAs};
+ghost use Rattle.station.specs.Trials.{asCorrection};
 use parity::Fix;
 
 // The number that a correction is answered, and its flips.
@@ -62,7 +62,7 @@ pub(crate) fn value_in(m: &[u8]) -> u16
     a % 32 * 256 + b
 }
 
-// A correction, and 14 where its format is not the expected one; the buffer holds it all the same.
+// A correction, and 14 where its format is not the expected one; a refusal leaves no promise of the buffer.
 fn on_trial(
     msg: &[u8],
     marks: &[u8],
@@ -72,7 +72,7 @@ fn on_trial(
     out: &mut [u8],
 ) -> Corrected
     requires { ⌜ 3 < length (now out) ⌝ }
-    ensures { λ r. ⌜ outcome r (now (out .exit)) ≡ onTrial format (correction (now (msg .entry)) (now (marks .entry)) address limit (now (out .entry))) ⌝ }
+    ensures { λ r. ⌜ asCorrection r (now (out .exit)) ≡ correctedAs format (now (msg .entry)) (now (marks .entry)) address limit (now (out .entry)) (now (out .exit)) ⌝ }
 {
     let f = parity::correct(msg, marks, address, limit, out);
     let n = number(f);
@@ -116,7 +116,7 @@ pub(crate) fn correct_as(
     out: &mut [u8],
 ) -> Corrected
     requires { ⌜ sized (length (now msg)) (length (now marks)) (length (now out)) ≡ true ⌝ }
-    ensures { λ r. ⌜ outcome r (now (out .exit)) ≡ ofFormat format (now (out .entry)) (correction (now (msg .entry)) (now (marks .entry)) address limit (now (out .entry))) ⌝ }
+    ensures { λ r. ⌜ asCorrection r (now (out .exit)) ≡ correctedAs format (now (msg .entry)) (now (marks .entry)) address limit (now (out .entry)) (now (out .entry)) ⌝ }
 {
     let n = msg.len();
     let mut scratch = [0u8; 14];

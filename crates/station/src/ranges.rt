@@ -1,13 +1,14 @@
 // The ranges of a target and of a request.
 ghost use mathlib.Core.Path.{_≡_};
 ghost use Rattle.station_rules.specs.Calls.{targetRanged, requestRanged};
+use numbers::wide;
 use planner_rules::Request;
 
 // Whether address, near and far of a target are in their ranges: near ≤ far ≤ R.
 pub(crate) fn target_ranged(address: u32, near: u16, far: u16, reach: u16) -> bool
     ensures { λ r. ⌜ r ≡ targetRanged address near far reach ⌝ }
 {
-    if !frames::an_address(address) {
+    if !frames::is_address(address) {
         return false;
     }
     if far < near {
@@ -18,13 +19,6 @@ pub(crate) fn target_ranged(address: u32, near: u16, far: u16, reach: u16) -> bo
 
 // A number of 8 bits among those of 32.
 pub(crate) fn byte(x: u8) -> u32
-    ensures { λ r. ⌜ r ≡ x ⌝ }
-{
-    x as u32
-}
-
-// A number of 16 bits among those of 32.
-pub(crate) fn wide(x: u16) -> u32
     ensures { λ r. ⌜ r ≡ x ⌝ }
 {
     x as u32

@@ -3,9 +3,11 @@ ghost use mathlib.Core.Path.{_≡_};
 ghost use mathlib.Core.Bool.{true};
 ghost use Prim.Native.Nat.{_<_};
 ghost use lib.ListN.{length};
+ghost use Rattle.lists.specs.Checks.{given};
 ghost use Rattle.parity_rules.specs.Correction.{sized};
 ghost use Rattle.station_rules.specs.State.{entriesOf};
-ghost use Rattle.station_rules.specs.Replies.{expected, holdsID, inWindow, saidIn, targetsHeard, entryNumbered, told, corrected, settled, replied};
+ghost use Rattle.station_rules.specs.Replies.{expected, holdsID, startOf, inWindow, saidIn, targetsHeard, entryNumbered};
+ghost use Rattle.station_rules.specs.Replies.{received, openChecks, told, settled, replied};
 ghost use Rattle.station.specs.Trials.{refusal};
 use crate::correcting::correct_as;
 use crate::correcting::value_in;
@@ -19,6 +21,7 @@ use crate::windows::delay;
 use crate::windows::in_window;
 use crate::windows::start_of;
 use frames::Draws;
+use planner_rules::Entry;
 use planner_rules::Request;
 use station_rules::Reply;
 use station_rules::Station;
@@ -51,24 +54,11 @@ fn holds_id(f: u8) -> bool
 fn said_in(f: u8, v: u16, x: Target) -> Target
     ensures { λ r. ⌜ r ≡ saidIn f v x ⌝ }
 {
+    let heard = Value::Heard { value: v, age: 0 };
     if holds_id(f) {
-        let ac = x.ac;
-        return Target {
-            address: x.address,
-            near: x.near,
-            far: x.far,
-            ac: ac,
-            id: Value::Heard { value: v, age: 0 },
-        };
+        return targets::with_id(heard, x);
     }
-    let id = x.id;
-    Target {
-        address: x.address,
-        near: x.near,
-        far: x.far,
-        ac: Value::Heard { value: v, age: 0 },
-        id: id,
-    }
+    targets::with_ac(heard, x)
 }
 
 // The targets after the one of the request said a value.
@@ -96,11 +86,11 @@ fn refused(number: u8, s: Station) -> Reply
 }
 
 // A reply that has passed the checks before the correction, by the correction.
-fn settle(s: Station, entry: usize, start: u32, msg: &[u8], marks: &[u8], out: &mut [u8]) -> Reply
+fn settle(s: Station, entry: usize, tag: u32, msg: &[u8], marks: &[u8], out: &mut [u8]) -> Reply
     requires { ⌜ sized (length (now msg)) (length (now marks)) (length (now out)) ≡ true ⌝ }
     requires { ⌜ entry < length (entriesOf (s .plan)) ⌝ }
-    requires { ⌜ inWindow (entryNumbered entry s) start ≡ true ⌝ }
-    ensures { λ r. ⌜ told r (now (out .exit)) ≡ settled entry start (now (out .entry)) (corrected entry (now (msg .entry)) (now (marks .entry)) (now (out .entry)) s) s ⌝ }
+    requires { ⌜ inWindow (entryNumbered entry s) (startOf tag (s .plan .tag)) ≡ true ⌝ }
+    ensures { λ r. ⌜ told r (now (out .exit)) ≡ settled s (received entry tag (now (msg .entry)) (now (marks .entry)) (now (out .entry))) ⌝ }
 {
     let p = s.plan;
     let e = entry_of(p, entry);
@@ -117,13 +107,30 @@ fn settle(s: Station, entry: usize, start: u32, msg: &[u8], marks: &[u8], out: &
     Reply {
         number: 0,
         flips: f.flips,
-        delay: delay(e, start),
+        delay: delay(e, start_of(tag, p.tag)),
         station: next,
     }
 }
 
-// A reply: 1 for the lengths, 7 for no such entry, 8 for an entry answered or withdrawn, 9 for another length than expected,
-// 10 outside its window; then by the correction.
+// A reply by its entry: 8 for one answered or withdrawn, 9 for another length than expected, 10 outside its window, else 0.
+fn judge_entry(e: Entry, start: u32, n: usize) -> u8
+    ensures { λ r. ⌜ r ≡ given (openChecks e start n) ⌝ }
+{
+    let m = e.status;
+    if !is_open(m) {
+        return 8;
+    }
+    let a = e.ask;
+    if n != frames::length_of(byte(expected(a.request))) {
+        return 9;
+    }
+    if !in_window(e, start) {
+        return 10;
+    }
+    0
+}
+
+// A reply: 1 for the lengths, 7 for no such entry; then by its entry, and by the correction.
 pub fn take_reply(
     s: Station,
     entry: usize,
@@ -132,7 +139,7 @@ pub fn take_reply(
     marks: &[u8],
     out: &mut [u8],
 ) -> Reply
-    ensures { λ r. ⌜ told r (now (out .exit)) ≡ replied s entry tag (now (msg .entry)) (now (marks .entry)) (now (out .entry)) ⌝ }
+    ensures { λ r. ⌜ told r (now (out .exit)) ≡ replied s (received entry tag (now (msg .entry)) (now (marks .entry)) (now (out .entry))) ⌝ }
 {
     if !parity::sized(msg.len(), marks.len(), out.len()) {
         return refused(1, s);
@@ -142,17 +149,9 @@ pub fn take_reply(
         return refused(7, s);
     }
     let e = entry_of(p, entry);
-    let m = e.status;
-    if !is_open(m) {
-        return refused(8, s);
+    let k = judge_entry(e, start_of(tag, p.tag), msg.len());
+    if k != 0 {
+        return refused(k, s);
     }
-    let a = e.ask;
-    if msg.len() != frames::length_of(byte(expected(a.request))) {
-        return refused(9, s);
-    }
-    let start = start_of(tag, p.tag);
-    if !in_window(e, start) {
-        return refused(10, s);
-    }
-    settle(s, entry, start, msg, marks, out)
+    settle(s, entry, tag, msg, marks, out)
 }

@@ -7,7 +7,7 @@ use crate::entries::no_entry;
 use crate::targets::fresh;
 use crate::waiting::no_request;
 use planner_rules::Setup;
-use station_rules::Answer;
+use station_rules::Outcome;
 use station_rules::Plan;
 use station_rules::Station;
 use station_rules::Target;
@@ -75,18 +75,18 @@ fn emptied(s: Station, setup: Setup) -> Station
 }
 
 // A setup that is judged good empties everything; a refused one changes nothing.
-pub fn set_up(s: Station, setup: Setup) -> Answer
+pub fn set_up(s: Station, setup: Setup) -> Outcome
     ensures { λ r. ⌜ r ≡ setUp s setup ⌝ }
 {
     let k = planner::judge(setup);
     if k != 0 {
-        return Answer {
+        return Outcome {
             number: k,
             station: s,
         };
     }
     let out = emptied(s, setup);
-    Answer {
+    Outcome {
         number: 0,
         station: out,
     }

@@ -3,9 +3,9 @@ ghost use mathlib.Core.Path.{_≡_};
 ghost use mathlib.Core.Bool.{true};
 ghost use Prim.Native.Nat.{_<_};
 ghost use lib.ListN.{length};
-ghost use Rattle.station_rules.specs.State.{targetsOf, placeIn, inList, fresh, targetAt, targetsWith, targetsWithout, targetsPut};
+ghost use Rattle.station_rules.specs.State.{targetsOf, placeIn, inList, fresh, withAC, withID, targetAt, targetsWith, targetsWithout, targetsPut};
 ghost use Rattle.station_rules.specs.Calls.{targetsFull};
-use crate::slots::live;
+use numbers::live;
 use station_rules::Target;
 use station_rules::Targets;
 use station_rules::Value;
@@ -109,4 +109,32 @@ pub(crate) fn put(t: Targets, address: u32, x: Target) -> Targets
     out.list[i] = x;
     out.n = n;
     out
+}
+
+// A target with another AC.
+pub(crate) fn with_ac(v: Value, x: Target) -> Target
+    ensures { λ r. ⌜ r ≡ withAC v x ⌝ }
+{
+    let id = x.id;
+    Target {
+        address: x.address,
+        near: x.near,
+        far: x.far,
+        ac: v,
+        id: id,
+    }
+}
+
+// A target with another ID.
+pub(crate) fn with_id(v: Value, x: Target) -> Target
+    ensures { λ r. ⌜ r ≡ withID v x ⌝ }
+{
+    let ac = x.ac;
+    Target {
+        address: x.address,
+        near: x.near,
+        far: x.far,
+        ac: ac,
+        id: v,
+    }
 }

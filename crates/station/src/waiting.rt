@@ -5,7 +5,7 @@ ghost use lib.ListN.{length};
 ghost use Rattle.lists.specs.Lists.{countOf};
 ghost use Rattle.station_rules.specs.State.{requestsOf, isOf, waitingWith, waitingWithout, noRequest};
 ghost use Rattle.station_rules.specs.Calls.{unitFull};
-use crate::slots::live;
+use numbers::live;
 use planner_rules::Request;
 use station_rules::Waiting;
 

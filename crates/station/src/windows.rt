@@ -6,7 +6,7 @@ ghost use lib.IntN.{subℕ};
 ghost use mir.Syntax.{w32};
 ghost use mir.Val.{SFits};
 ghost use Rattle.station_rules.specs.Replies.{startOf, inWindow, delayOf};
-use crate::ranges::wide;
+use numbers::wide;
 use planner::Exchange;
 use planner_rules::Entry;
 

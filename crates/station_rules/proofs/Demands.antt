@@ -1,5 +1,5 @@
 -- The demands, over every history of calls.
-use borrow.Author.Tests.{ltb-true}
+use borrow.Author.Tests.{ltb-true, eqb-true, not-false}
 use Prim.Native.Nat.{ℕ}
 use mathlib.Core.Path.{_≡_, refl, ap, ap₂, _∙_}
 use mathlib.Core.List.{List, [], _∷_, map}
@@ -7,6 +7,7 @@ use lib.ListN.{length}
 use Rattle.lists.specs.Lists.{All}
 use Rattle.lists.proofs.Each.{all-at, all-image}
 use Rattle.parity_rules.specs.Messages.{AreBytes}
+use Rattle.frames_rules.specs.Formats.{lengthOf}
 use Rattle.planner_rules.specs.declared.request.Request.{Request}
 use Rattle.planner_rules.specs.declared.request.Ask.{Ask}
 use Rattle.planner_rules.proofs.Demand3.{demand3, left-each}
@@ -14,16 +15,15 @@ use Rattle.station_rules.specs.declared.state.Station.{Station}
 use Rattle.station_rules.specs.declared.state.Targets.{Targets}
 use Rattle.station_rules.specs.State.{requestsOf, entriesOf, noEntry}
 use Rattle.station_rules.specs.Planning.{askFor, requestOf, asked, boardFor, nextPlan}
-use Rattle.station_rules.specs.Replies.{startOf, entryNumbered, replied}
+use Rattle.station_rules.specs.Replies.{expected, Received, entryFor, requestFor, startFor, openChecks, entryChecks, replied}
 use Rattle.station_rules.specs.History.{Call, after}
 use Rattle.station_rules.specs.Kept.{Entered, Kept}
 use Rattle.station_rules.specs.Demands.{Demand1, Ages, Believed, InTime, Plans}
-use Rattle.station_rules.proofs.Came.{refusal-changes-nothing, refused-reply-writes-nothing}
+use Rattle.station_rules.proofs.Came.{refusal-changes-nothing, refused-reply-writes-nothing, taken}
 use Rattle.station_rules.proofs.Keeping.{proper, plan-shows, plan-leaves, always-kept}
 use Rattle.station_rules.proofs.Numbers.{numbers}
 use Rattle.station_rules.proofs.Ages.{report-is}
 use Rattle.station_rules.proofs.Replies.{believed}
-use Rattle.station_rules.proofs.Taken.{right}
 use Rattle.station_rules.proofs.Windows.{in-time}
 
 -- demand 1
@@ -40,17 +40,21 @@ pub ages : (cs : List Call) → Ages cs
 ages cs = record { told = report-is cs }
 
 -- demand 2, replies
-pub replies : (cs : List Call) (k tag : ℕ) (msg marks out : List ℕ) → AreBytes msg → replied (after cs) k tag msg marks out .number ≡ 0 → Believed (after cs) k msg marks (replied (after cs) k tag msg marks out)
-replies cs k tag msg marks out bytes e = believed (after cs) k tag msg marks out bytes e
+pub replies : (cs : List Call) (r : Received) → AreBytes (r .message) → replied (after cs) r .number ≡ 0 → Believed (after cs) r (replied (after cs) r)
+replies cs r bytes e = believed (after cs) r bytes e
 
 -- in every history a reply that is taken begins and ends in the listening window of its entry, and the delay told is its own
-pub taken-in-time : (cs : List Call) (k tag : ℕ) (msg marks out : List ℕ) → replied (after cs) k tag msg marks out .number ≡ 0
-    → InTime (entryNumbered k (after cs)) (startOf tag (after cs .plan .tag)) msg (replied (after cs) k tag msg marks out .delay)
-taken-in-time cs k tag msg marks out e =
-    let t = right (after cs) k tag msg marks out e in
-    let l = ltb-true k (length (entriesOf (after cs .plan))) (t .listed) in
-    let entered = all-at (Entered (after cs .targets)) (entriesOf (after cs .plan)) noEntry k (always-kept cs .entries) l in
-    rw (t .told) (in-time (entryNumbered k (after cs)) (startOf tag (after cs .plan .tag)) msg (entered .0) (t .long) (t .inside))
+pub taken-in-time : (cs : List Call) (r : Received) → replied (after cs) r .number ≡ 0
+    → InTime (entryFor (after cs) r) (startFor (after cs) r) (r .message) (replied (after cs) r .delay)
+unfolding entryChecks openChecks
+taken-in-time cs r e =
+    let t = taken (after cs) r e in
+    let p = t .passed in
+    let l = ltb-true (r .entry) (length (entriesOf (after cs .plan))) (not-false _ (p .off 7)) in
+    let entered = all-at (Entered (after cs .targets)) (entriesOf (after cs .plan)) noEntry (r .entry) (always-kept cs .entries) l in
+    rw (t .is)
+    (in-time (entryFor (after cs) r) (startFor (after cs) r) (r .message) (entered .0)
+    (eqb-true (length (r .message)) (lengthOf (expected (requestFor (after cs) r))) (not-false _ (p .off 9))) (not-false _ (p .off 10)))
 
 -- ---- demand 3
 -- what is left waits with near and far of its target, as it was asked

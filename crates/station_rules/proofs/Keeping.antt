@@ -1,5 +1,5 @@
 -- What every history of calls keeps true of the station.
-use borrow.Author.Tests.{leb-true, leb-false, lt-leb, eqb-true, eqb-false, not-true}
+use borrow.Author.Tests.{leb-true, leb-false, lt-leb, eqb-true, eqb-false, not-true, not-false}
 use Prim.Native.Nat.{ℕ, zero, suc, _+_, _≤_, _<_}
 use native.Mathlib.Omega.{arith}
 use mathlib.Core.Path.{_≡_, refl, sym, ap, subst, _∙_}
@@ -8,6 +8,8 @@ use mathlib.Core.Bool.{Bool, true, false, not, _&&_, _||_, false≢true}
 use lib.ListN.{length, getD, set}
 use lib.Dec.{eqb, leb}
 use Rattle.lists.specs.Lists.{pick, countOf, every, total, filter, All}
+use Rattle.lists.specs.Checks.{checked, given}
+use Rattle.lists.proofs.Checks.{Passed, CameTo, was-refused, was-done}
 use Rattle.lists.proofs.Tests.{and-true, and-left, and-right, and-yes}
 use Rattle.lists.proofs.Over.{take-over}
 use Rattle.lists.proofs.Count.{count-nil, count-snoc}
@@ -25,20 +27,25 @@ use Rattle.planner_rules.specs.declared.setup.Setup.{Setup}
 use Rattle.planner_rules.specs.Demand3.{Proper}
 use Rattle.planner_rules.specs.Shares.{setupNumber, sharesFit}
 use Rattle.planner_rules.proofs.Demand3.{demand3, left-each}
+use Rattle.station_rules.specs.declared.state.Value.the-variants.{Heard}
 use Rattle.station_rules.specs.declared.state.Target.{Target}
 use Rattle.station_rules.specs.declared.state.Targets.{Targets}
 use Rattle.station_rules.specs.declared.state.Waiting.{Waiting}
 use Rattle.station_rules.specs.declared.state.Plan.{Plan}
 use Rattle.station_rules.specs.declared.state.Station.{Station}
-use Rattle.station_rules.specs.declared.state.Answer.{Answer}
-use Rattle.station_rules.specs.State.{targetsOf, targetsAs, targetsWith, targetsPut, statusWithdrawn, isAt, placeIn, inList, fresh, targetAt, older, targetsOlder, requestsOf, waitingAs, isOf, entriesOf, planAs, withdrawn, withStatus, noEntry, emptied, beforeSetup}
-use Rattle.station_rules.specs.Calls.{targetRanged, requestRanged, unitFull, without, edged}
+use Rattle.station_rules.specs.declared.state.Outcome.{Outcome}
+use Rattle.station_rules.specs.State.{targetsOf, targetsAs, targetsWith, targetsPut, isAt, placeIn, inList, fresh, withEdges, withAC, withID, targetAt}
+use Rattle.station_rules.specs.State.{older}
+use Rattle.station_rules.specs.State.{targetsOlder, requestsOf, waitingAs, waitingWith, isOf, entriesOf, planAs, statusWithdrawn, withdrawn, withStatus}
+use Rattle.station_rules.specs.State.{noEntry, withTargets, emptied, beforeSetup}
+use Rattle.station_rules.specs.Calls.{refused, leaves, targetRanged, requestRanged, unitFull, newTargetChecks, withNew, heldChecks, without}
+use Rattle.station_rules.specs.Calls.{moveChecks, withMoved, requestChecks, withRequest}
 use Rattle.station_rules.specs.Planning.{askFor, requestOf, asked, boardFor, nextPlan}
-use Rattle.station_rules.specs.Replies.{isOpen, saidIn, saidID, saidAC, holdsID, expected, targetsHeard, entryNumbered, valueIn, planAnswered, afterReply}
-use Rattle.station_rules.specs.History.{Call, answer, after}
+use Rattle.station_rules.specs.Replies.{isOpen, saidIn, holdsID, expected, targetsHeard, entryNumbered, valueIn, planAnswered, afterReply, corrected}
+use Rattle.station_rules.specs.History.{Call, setup, new, remove, move, request, plan, reply, report, answer, after, checksOf, next}
 use Rattle.station_rules.specs.Kept.{InReach, Waits, Entered, Kept}
 use Rattle.station_rules.proofs.Lookup.{has, look, has-nil, has-cons, look-cons, has-snoc, has-map, has-other, has-put}
-use Rattle.station_rules.proofs.Came.{Came, refusal, did-setup, did-new, did-remove, did-move, did-request, did-plan, did-reply, did-report, came}
+use Rattle.station_rules.proofs.Came.{came}
 
 -- ---- the list laid over the slots of a part is the one that the part holds
 pub targets-are : (v : List Target) (t : Targets) → targetsOf (targetsAs v t) ≡ v
@@ -115,20 +122,21 @@ none h s a = record { shares = a; reach = tt; waiting = tt; sixteen = λ u. omeg
 put-stays : (t u : Targets) (b : ℕ) (y : Target) → y .address ≡ b → targetsOf u ≡ set (targetsOf t) (placeIn (targetsOf t) b) y → Stays t u
 put-stays t u b y same e a k = ap (has a) e ∙ has-put a b y same (targetsOf t) ∙ k
 
-put-reaches : (R : ℕ) (t u : Targets) (b : ℕ) (y : Target) → InReach R y → targetsOf u ≡ set (targetsOf t) (placeIn (targetsOf t) b) y → Reaching R t → Reaching R u
+put-reaches : (R : ℕ) (t u : Targets) (b : ℕ) (y : Target) → InReach R y → targetsOf u ≡ set (targetsOf t) (placeIn (targetsOf t) b) y → Reaching R t
+    → Reaching R u
 put-reaches R t u b y p e h = subst (λ (v : List Target). All (InReach R) v) (sym e) (all-set (InReach R) (targetsOf t) (placeIn (targetsOf t) b) y p h)
 
 pub said-address : (f v : ℕ) (t : Target) → saidIn f v t .address ≡ t .address
 said-address f v t = go (holdsID f)
   where
-    go : (b : Bool) → pick b (saidID v t) (saidAC v t) .address ≡ t .address
+    go : (b : Bool) → pick b (withID (Heard v 0) t) (withAC (Heard v 0) t) .address ≡ t .address
     go true = refl
     go false = refl
 
 said-reach : (R f v : ℕ) (t : Target) → InReach R t → InReach R (saidIn f v t)
 said-reach R f v t h = go (holdsID f)
   where
-    go : (b : Bool) → InReach R (pick b (saidID v t) (saidAC v t))
+    go : (b : Bool) → InReach R (pick b (withID (Heard v 0) t) (withAC (Heard v 0) t))
     go true = h
     go false = h
 
@@ -143,8 +151,10 @@ heard-keeps R q v t h = go (inList (q .address) t) refl
     go true e =
         let y = saidIn (expected q) v (targetAt (q .address) t) in
         let l = targets-are (heardList q v t) t in (
-          put-reaches R t (targetsAs (heardList q v t) t) (q .address) y (said-reach R (expected q) v (targetAt (q .address) t) (all-look (InReach R) (q .address) (targetsOf t) h e)) l h,
-          put-stays t (targetsAs (heardList q v t) t) (q .address) y (said-address (expected q) v (targetAt (q .address) t) ∙ address-of (q .address) (targetsOf t) e) l,
+          put-reaches R t (targetsAs (heardList q v t) t) (q .address) y
+              (said-reach R (expected q) v (targetAt (q .address) t) (all-look (InReach R) (q .address) (targetsOf t) h e)) l h,
+          put-stays t (targetsAs (heardList q v t) t) (q .address) y
+              (said-address (expected q) v (targetAt (q .address) t) ∙ address-of (q .address) (targetsOf t) e) l,
         )
     go false e = (h, λ a k. k)
 
@@ -211,7 +221,9 @@ unfolding nextPlan
 planned-keeps s tag h =
     record {
       shares = h .shares;
-      reach = rw (targets-are (map older (targetsOf (s .targets))) (s .targets)) (all-image older (InReach (s .setup .reach)) (InReach (s .setup .reach)) (λ t k. k) (targetsOf (s .targets)) (h .reach));
+      reach =
+          rw (targets-are (map older (targetsOf (s .targets))) (s .targets))
+          (all-image older (InReach (s .setup .reach)) (InReach (s .setup .reach)) (λ t k. k) (targetsOf (s .targets)) (h .reach));
       waiting = waits-on (s .targets) (targetsOlder (s .targets)) (nextPlan s tag .waiting) (older-stays (s .targets)) (left-waits s tag h);
       sixteen = λ u. omega (arith, left-fewer s tag h u, h .sixteen u);
       entries = entries-on (s .targets) (targetsOlder (s .targets)) (nextPlan s tag .plan) (older-stays (s .targets)) (placed-entered s tag h);
@@ -230,7 +242,8 @@ few : (b : Bool) (n u v : ℕ) → b ≡ eqb v u → n ≤ 16 → (v ≡ u → n
 few true n u v e h k = let l = k (eqb-true v u (sym e)) in omega arith
 few false n u v e h k = omega arith
 
-asked-keeps : (s : Station) (q : Request) → Kept s → requestRanged q ≡ true → inList (q .address) (s .targets) ≡ true → unitFull (q .unit) (s .waiting) ≡ false → (w : Waiting) → requestsOf w ≡ requestsOf (s .waiting) ++ (q ∷ []) → Waiting-for (s .targets) w × Sixteen w
+asked-keeps : (s : Station) (q : Request) → Kept s → requestRanged q ≡ true → inList (q .address) (s .targets) ≡ true
+    → unitFull (q .unit) (s .waiting) ≡ false → (w : Waiting) → requestsOf w ≡ requestsOf (s .waiting) ++ (q ∷ []) → Waiting-for (s .targets) w × Sixteen w
 asked-keeps s q h g f n w e = (
   subst (All (Waits (s .targets))) (sym e) (all-snoc (Waits (s .targets)) (requestsOf (s .waiting)) q (h .waiting) (g, f)),
   λ u. subst (λ (v : List Request). countOf (isOf u) v ≤ 16) (sym e)
@@ -245,10 +258,12 @@ no-open Open e = false≢true e
 no-open Answered e = false≢true e
 no-open Withdrawn e = false≢true e
 
-still-held : (t : Targets) (a : ℕ) (e : Entry) → (isOpen (e .status) ≡ true → inList (e .ask .request .address) t ≡ true) → isOpen (withdrawn a e .status) ≡ true → has (e .ask .request .address) (filter (λ (x : Target). not (isAt a x)) (targetsOf t)) ≡ true
+still-held : (t : Targets) (a : ℕ) (e : Entry) → (isOpen (e .status) ≡ true → inList (e .ask .request .address) t ≡ true)
+    → isOpen (withdrawn a e .status) ≡ true → has (e .ask .request .address) (filter (λ (x : Target). not (isAt a x)) (targetsOf t)) ≡ true
 still-held t a e k = go (eqb (e .ask .request .address) a) refl
   where
-    go : (b : Bool) → eqb (e .ask .request .address) a ≡ b → isOpen (pick b (statusWithdrawn (e .status)) (e .status)) ≡ true → has (e .ask .request .address) (filter (λ (x : Target). not (isAt a x)) (targetsOf t)) ≡ true
+    go : (b : Bool) → eqb (e .ask .request .address) a ≡ b → isOpen (pick b (statusWithdrawn (e .status)) (e .status)) ≡ true
+        → has (e .ask .request .address) (filter (λ (x : Target). not (isAt a x)) (targetsOf t)) ≡ true
     go true q o = absurd (no-open (e .status) o)
     go false q o = has-other (e .ask .request .address) a (targetsOf t) (eqb-false (e .ask .request .address) a q) ∙ k o
 
@@ -297,50 +312,67 @@ reply-keeps s k m h =
     }
 
 blank-accepted : setupNumber (beforeSetup .setup) ≡ 0
-unfolding setupNumber sharesFit beforeSetup every total
+unfolding checked setupNumber sharesFit beforeSetup every total
 blank-accepted = refl
 
-pub kept-next : (s : Station) → Kept s → (c : Call) (r : Answer) → Came s c r → Kept (r .station)
-kept-next s h c r (refusal k z e) = subst (λ (x : Answer). Kept (x .station)) (sym e) h
-kept-next s h c r (did-setup x a e) = subst (λ (x : Answer). Kept (x .station)) (sym e) (none x s a)
-kept-next s h c r (did-new a near far g f e) =
-    subst (λ (x : Answer). Kept (x .station)) (sym e)
-    (let k = targets-are (targetsOf (s .targets) ++ (fresh a near far ∷ [])) (s .targets) in
-    let j : Stays (s .targets) (targetsWith (fresh a near far) (s .targets)) = λ b i. ap (has b) k ∙ has-snoc b (targetsOf (s .targets)) (fresh a near far) ∙ (rw i) in
+-- a target put in, or in the place of another: what waits and what is planned stands as it did
+targets-keep : (s : Station) (u : Targets) → Kept s → Reaching (s .setup .reach) u → Stays (s .targets) u → Kept (withTargets u s)
+targets-keep s u h r j =
     record {
       shares = h .shares;
-      reach = rw k (all-snoc (InReach (s .setup .reach)) (targetsOf (s .targets)) (fresh a near far) (h .reach) (reach-of a near far (s .setup .reach) g));
-      waiting = waits-on (s .targets) (targetsWith (fresh a near far) (s .targets)) (s .waiting) j (h .waiting);
-      sixteen = h .sixteen;
-      entries = entries-on (s .targets) (targetsWith (fresh a near far) (s .targets)) (s .plan) j (h .entries);
-    })
-kept-next s h c r (did-remove a e) = subst (λ (x : Answer). Kept (x .station)) (sym e) (without-keeps s a h)
-kept-next s h c r (did-move a near far g f e) =
-    subst (λ (x : Answer). Kept (x .station)) (sym e)
-    (let y = edged near far (targetAt a (s .targets)) in
-    let u = targetsPut a y (s .targets) in
-    let l = targets-are (set (targetsOf (s .targets)) (placeIn (targetsOf (s .targets)) a) y) (s .targets) in
-    let j = put-stays (s .targets) u a y (address-of a (targetsOf (s .targets)) f) l in
-    record {
-      shares = h .shares;
-      reach = put-reaches (s .setup .reach) (s .targets) u a y (reach-of a near far (s .setup .reach) g) l (h .reach);
+      reach = r;
       waiting = waits-on (s .targets) u (s .waiting) j (h .waiting);
       sixteen = h .sixteen;
       entries = entries-on (s .targets) u (s .plan) j (h .entries);
-    })
-kept-next s h c r (did-request q g f n e) =
-    subst (λ (x : Answer). Kept (x .station)) (sym e)
-    (let k = asked-keeps s q h g f n (waitingAs (requestsOf (s .waiting) ++ (q ∷ [])) (s .waiting)) (requests-are (requestsOf (s .waiting) ++ (q ∷ [])) (s .waiting)) in
-    record { shares = h .shares; reach = h .reach; waiting = k .0; sixteen = k .1; entries = h .entries })
-kept-next s h c r (did-plan tag e) = subst (λ (x : Answer). Kept (x .station)) (sym e) (planned-keeps s tag h)
-kept-next s h c r (did-reply k tag msg marks out m o e) = subst (λ (x : Answer). Kept (x .station)) (sym e) (reply-keeps s k m h)
-kept-next s h c r (did-report a e) = subst (λ (x : Answer). Kept (x .station)) (sym e) h
+    }
+
+new-keeps : (s : Station) (a near far : ℕ) → Kept s → targetRanged a near far (s .setup .reach) ≡ true → Kept (withNew a near far s)
+new-keeps s a near far h g =
+    let k = targets-are (targetsOf (s .targets) ++ (fresh a near far ∷ [])) (s .targets) in
+    targets-keep s (targetsWith (fresh a near far) (s .targets)) h
+    (rw k (all-snoc (InReach (s .setup .reach)) (targetsOf (s .targets)) (fresh a near far) (h .reach) (reach-of a near far (s .setup .reach) g)))
+    (λ b i. ap (has b) k ∙ has-snoc b (targetsOf (s .targets)) (fresh a near far) ∙ (rw i))
+
+move-keeps : (s : Station) (a near far : ℕ) → Kept s → targetRanged a near far (s .setup .reach) ≡ true → inList a (s .targets) ≡ true
+    → Kept (withMoved a near far s)
+move-keeps s a near far h g f =
+    let y = withEdges near far (targetAt a (s .targets)) in
+    let u = targetsPut a y (s .targets) in
+    let l = targets-are (set (targetsOf (s .targets)) (placeIn (targetsOf (s .targets)) a) y) (s .targets) in
+    targets-keep s u h
+    (put-reaches (s .setup .reach) (s .targets) u a y (reach-of a near far (s .setup .reach) g) l (h .reach))
+    (put-stays (s .targets) u a y (address-of a (targetsOf (s .targets)) f) l)
+
+request-keeps : (s : Station) (q : Request) → Kept s → requestRanged q ≡ true → inList (q .address) (s .targets) ≡ true
+    → unitFull (q .unit) (s .waiting) ≡ false → Kept (withRequest q s)
+request-keeps s q h g f n =
+    let k = asked-keeps s q h g f n (waitingWith q (s .waiting)) (requests-are (requestsOf (s .waiting) ++ (q ∷ [])) (s .waiting)) in
+    record { shares = h .shares; reach = h .reach; waiting = k .0; sixteen = k .1; entries = h .entries }
+
+-- ---- every call that is done
+pub kept-done : (s : Station) → Kept s → (c : Call) → Passed (checksOf s c) → given (checksOf s c) ≡ 0 → Kept (next s c)
+unfolding setupNumber newTargetChecks heldChecks moveChecks requestChecks
+kept-done s h (setup x) p z = none x s z
+kept-done s h (new a near far) p z = new-keeps s a near far h (not-false _ (p .off 2))
+kept-done s h (remove a) p z = without-keeps s a h
+kept-done s h (move a near far) p z = move-keeps s a near far h (not-false _ (p .off 2)) (not-false _ (p .off 4))
+kept-done s h (request q) p z = request-keeps s q h (not-false _ (p .off 2)) (not-false _ (p .off 4)) (p .off 6)
+kept-done s h (plan tag) p z = planned-keeps s tag h
+kept-done s h (reply r) p z = reply-keeps s (r .entry) (corrected s r .output) h
+kept-done s h (report a) p z = h
+
+pub kept-next : (s : Station) → Kept s → (c : Call) → Kept (answer s c .station)
+kept-next s h c = go (answer s c) (came s c)
+  where
+    go : (r : Outcome) → CameTo (checksOf s c) (refused s) (leaves (next s c)) r → Kept (r .station)
+    go r (was-refused x z e g q) = subst (λ (a : Outcome). Kept (a .station)) (sym q) h
+    go r (was-done p z q) = subst (λ (a : Outcome). Kept (a .station)) (sym q) (kept-done s h c p z)
 
 -- every history keeps it
 pub always-kept : (cs : List Call) → Kept (after cs)
 unfolding after emptied beforeSetup
 always-kept [] = none (beforeSetup .setup) beforeSetup blank-accepted
-always-kept (c ∷ cs) = kept-next (after cs) (always-kept cs) c (answer (after cs) c) (came (after cs) c)
+always-kept (c ∷ cs) = kept-next (after cs) (always-kept cs) c
 
 -- ---- refusal 6 to a request, as the paper has it: the slots never run out before
 pub six : (cs : List Call) (u : ℕ) → u < 8 → unitFull u (after cs .waiting) ≡ leb 16 (countOf (isOf u) (requestsOf (after cs .waiting)))

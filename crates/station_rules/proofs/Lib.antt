@@ -4,7 +4,6 @@ pub mod Came
 pub mod Keeping
 pub mod Ages
 pub mod Replies
-pub mod Taken
 pub mod Windows
 pub mod Numbers
 pub mod Demands

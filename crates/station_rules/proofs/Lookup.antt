@@ -62,7 +62,8 @@ module _ (a : ℕ) where
   look-snoc [] x = look-cons x [] ∙ (rw has-nil)
   look-snoc (y ∷ ts) x = look-cons y (ts ++ (x ∷ [])) ∙ (rw (has-cons y ts, look-cons y ts, look-snoc ts x) (go (isAt a y) (has a ts)))
     where
-      go : (b c : Bool) → pick b y (pick c (look a ts) (pick (isAt a x) x (fresh 0 0 0))) ≡ pick (pick b true c) (pick b y (look a ts)) (pick (isAt a x) x (fresh 0 0 0))
+      go : (b c : Bool)
+          → pick b y (pick c (look a ts) (pick (isAt a x) x (fresh 0 0 0))) ≡ pick (pick b true c) (pick b y (look a ts)) (pick (isAt a x) x (fresh 0 0 0))
       go true c = refl
       go false c = refl
 
@@ -79,7 +80,8 @@ module _ (a : ℕ) where
     look-map [] h = absurd (false≢true (sym has-nil ∙ h))
     look-map (x ∷ ts) h = look-cons (f x) (map f ts) ∙ (rw (at-same x, look-cons x ts) (go (isAt a x) (sym (has-cons x ts) ∙ h) (λ e. look-map ts e)))
       where
-        go : (b : Bool) → pick b true (has a ts) ≡ true → (has a ts ≡ true → look a (map f ts) ≡ f (look a ts)) → pick b (f x) (look a (map f ts)) ≡ f (pick b x (look a ts))
+        go : (b : Bool) → pick b true (has a ts) ≡ true → (has a ts ≡ true → look a (map f ts) ≡ f (look a ts))
+            → pick b (f x) (look a (map f ts)) ≡ f (pick b x (look a ts))
         go true e ih = refl
         go false e ih = ih e
 
@@ -100,7 +102,8 @@ module _ (a : ℕ) where
     has-other [] n = refl
     has-other (x ∷ ts) n = ap (has a) (filter-cons x ts) ∙ go (isAt b x) refl (has-other ts n) ∙ sym (has-cons x ts)
       where
-        go : (c : Bool) → isAt b x ≡ c → has a (filter other ts) ≡ has a ts → has a (pick (not c) (x ∷ filter other ts) (filter other ts)) ≡ pick (isAt a x) true (has a ts)
+        go : (c : Bool) → isAt b x ≡ c → has a (filter other ts) ≡ has a ts
+            → has a (pick (not c) (x ∷ filter other ts) (filter other ts)) ≡ pick (isAt a x) true (has a ts)
         go true e ih = rw (away x e n) ih
         go false e ih = has-cons x (filter other ts) ∙ (rw ih)
 
@@ -109,7 +112,8 @@ module _ (a : ℕ) where
     look-other [] n = refl
     look-other (x ∷ ts) n = ap (look a) (filter-cons x ts) ∙ go (isAt b x) refl (look-other ts n) ∙ sym (look-cons x ts)
       where
-        go : (c : Bool) → isAt b x ≡ c → look a (filter other ts) ≡ look a ts → look a (pick (not c) (x ∷ filter other ts) (filter other ts)) ≡ pick (isAt a x) x (look a ts)
+        go : (c : Bool) → isAt b x ≡ c → look a (filter other ts) ≡ look a ts
+            → look a (pick (not c) (x ∷ filter other ts) (filter other ts)) ≡ pick (isAt a x) x (look a ts)
         go true e ih = rw (away x e n) ih
         go false e ih = look-cons x (filter other ts) ∙ (rw ih)
 
@@ -119,7 +123,8 @@ module _ (a : ℕ) where
   has-gone [] = has-nil
   has-gone (x ∷ ts) = go (isAt a x) refl (has-gone ts)
     where
-      go : (c : Bool) → isAt a x ≡ c → has a (filter (λ (x : Target). not (isAt a x)) ts) ≡ false → has a (pick (not c) (x ∷ filter (λ (x : Target). not (isAt a x)) ts) (filter (λ (x : Target). not (isAt a x)) ts)) ≡ false
+      go : (c : Bool) → isAt a x ≡ c → has a (filter (λ (x : Target). not (isAt a x)) ts) ≡ false
+          → has a (pick (not c) (x ∷ filter (λ (x : Target). not (isAt a x)) ts) (filter (λ (x : Target). not (isAt a x)) ts)) ≡ false
       go true e ih = ih
       go false e ih = has-cons x _ ∙ (rw e ih)
 
@@ -141,28 +146,42 @@ module _ (a b : ℕ) (y : Target) (same : y .address ≡ b) where
 
   pub has-put : (ts : List Target) → has a (set ts (placeIn ts b) y) ≡ has a ts
   has-put [] = refl
-  has-put (x ∷ ts) = ap (λ (n : ℕ). has a (set (x ∷ ts) n y)) (first-cons x ts) ∙ ap (has a) (put-cons x ts (isAt b x)) ∙ go (isAt b x) refl (has-put ts) ∙ sym (has-cons a x ts)
+  has-put (x ∷ ts) =
+      ap (λ (n : ℕ). has a (set (x ∷ ts) n y)) (first-cons x ts)
+      ∙ ap (has a) (put-cons x ts (isAt b x))
+      ∙ go (isAt b x) refl (has-put ts)
+      ∙ sym (has-cons a x ts)
     where
-      go : (c : Bool) → isAt b x ≡ c → has a (set ts (placeIn ts b) y) ≡ has a ts → has a (pick c (y ∷ ts) (x ∷ set ts (placeIn ts b) y)) ≡ pick (isAt a x) true (has a ts)
+      go : (c : Bool) → isAt b x ≡ c → has a (set ts (placeIn ts b) y) ≡ has a ts
+          → has a (pick c (y ∷ ts) (x ∷ set ts (placeIn ts b) y)) ≡ pick (isAt a x) true (has a ts)
       go true e ih = has-cons a y ts ∙ (rw (at-swap x e))
       go false e ih = has-cons a x _ ∙ (rw ih)
 
   pub look-put-other : (ts : List Target) → (a ≡ b → ⊥) → look a (set ts (placeIn ts b) y) ≡ look a ts
   look-put-other [] n = refl
-  look-put-other (x ∷ ts) n = ap (λ (m : ℕ). look a (set (x ∷ ts) m y)) (first-cons x ts) ∙ ap (look a) (put-cons x ts (isAt b x)) ∙ go (isAt b x) refl (look-put-other ts n) ∙ sym (look-cons a x ts)
+  look-put-other (x ∷ ts) n =
+      ap (λ (m : ℕ). look a (set (x ∷ ts) m y)) (first-cons x ts)
+      ∙ ap (look a) (put-cons x ts (isAt b x))
+      ∙ go (isAt b x) refl (look-put-other ts n)
+      ∙ sym (look-cons a x ts)
     where
       miss : (z : Target) → isAt b z ≡ true → isAt a z ≡ false
       miss z e = ne-eqb (z .address) a (λ q. n (sym q ∙ eqb-true (z .address) b e))
 
-      go : (c : Bool) → isAt b x ≡ c → look a (set ts (placeIn ts b) y) ≡ look a ts → look a (pick c (y ∷ ts) (x ∷ set ts (placeIn ts b) y)) ≡ pick (isAt a x) x (look a ts)
+      go : (c : Bool) → isAt b x ≡ c → look a (set ts (placeIn ts b) y) ≡ look a ts
+          → look a (pick c (y ∷ ts) (x ∷ set ts (placeIn ts b) y)) ≡ pick (isAt a x) x (look a ts)
       go true e ih = look-cons a y ts ∙ (rw (miss y y-at, miss x e))
       go false e ih = look-cons a x _ ∙ (rw ih)
 
 pub look-put : (a : ℕ) (y : Target) → y .address ≡ a → (ts : List Target) → has a ts ≡ true → look a (set ts (placeIn ts a) y) ≡ y
 look-put a y same [] h = absurd (false≢true (sym (has-nil a) ∙ h))
-look-put a y same (x ∷ ts) h = ap (λ (m : ℕ). look a (set (x ∷ ts) m y)) (first-cons a a y same x ts) ∙ ap (look a) (put-cons a a y same x ts (isAt a x)) ∙ go (isAt a x) refl (sym (has-cons a x ts) ∙ h) (λ t. look-put a y same ts t)
+look-put a y same (x ∷ ts) h =
+    ap (λ (m : ℕ). look a (set (x ∷ ts) m y)) (first-cons a a y same x ts)
+    ∙ ap (look a) (put-cons a a y same x ts (isAt a x))
+    ∙ go (isAt a x) refl (sym (has-cons a x ts) ∙ h) (λ t. look-put a y same ts t)
   where
-    go : (c : Bool) → isAt a x ≡ c → pick c true (has a ts) ≡ true → (has a ts ≡ true → look a (set ts (placeIn ts a) y) ≡ y) → look a (pick c (y ∷ ts) (x ∷ set ts (placeIn ts a) y)) ≡ y
+    go : (c : Bool) → isAt a x ≡ c → pick c true (has a ts) ≡ true → (has a ts ≡ true → look a (set ts (placeIn ts a) y) ≡ y)
+        → look a (pick c (y ∷ ts) (x ∷ set ts (placeIn ts a) y)) ≡ y
     go true e t ih = look-cons a y ts ∙ (rw (y-at a a y same))
     go false e t ih = look-cons a x _ ∙ (rw e (ih t))
 

@@ -46,7 +46,8 @@ start-is p s hp hs = go (ltb (p + s) (2 ^ 32)) refl
 pub in-listening : (e : Entry) (s : ℕ) → inWindow e s ≡ true → (listens e .lo ≤ s) × (s + replyFor (e .ask .request .rr) ≤ listens e .hi)
 unfolding inWindow
 in-listening e s h =
-    let a = leb-true (e .start + earliest + e .ask .near) s (and-left (leb (e .start + earliest + e .ask .near) s) (leb s (e .start + latest + e .ask .far)) h) in
+    let a = leb-true (e .start + earliest + e .ask .near) s
+    (and-left (leb (e .start + earliest + e .ask .near) s) (leb s (e .start + latest + e .ask .far)) h) in
     let b = leb-true s (e .start + latest + e .ask .far) (and-right (leb (e .start + earliest + e .ask .near) s) (leb s (e .start + latest + e .ask .far)) h) in
     (omega (arith, a), omega (arith, b))
 
@@ -85,7 +86,8 @@ unfolding replyFor expected drawn
 as-long-as-drawn q h r = rw (h, le-leb (q .rr) 31 r) (go (leb 16 (q .rr)))
   where
     go : (b : Bool)
-        → pick b replyLong replyShort ≡ pick (eqb (lengthOf (formatIn (pick b (Format (shortReply (q .uf) + 16)) (Format (shortReply (q .uf)))))) 14) replyLong replyShort
+        → pick b replyLong replyShort ≡ pick (eqb (lengthOf (formatIn (pick b (Format (shortReply (q .uf) + 16)) (Format (shortReply (q .uf)))))) 14)
+        replyLong replyShort
     go true = rw (each-format (q .uf) h .long)
     go false = rw (each-format (q .uf) h .short)
 

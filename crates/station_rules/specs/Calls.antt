@@ -1,33 +1,36 @@
--- What each call of the station is given, checks in the order of their numbers, and the station afterwards; planning and replies have files of their own.
+-- The calls on targets and requests: the checks of each in their order, and the station afterwards; planning and replies have files of their own.
 use Prim.Native.Nat.{ℕ}
 use mathlib.Core.Bool.{Bool, not, _&&_, _||_}
+use mathlib.Core.List.{List, [], _∷_}
 use lib.ListN.{length}
-use lib.Dec.{eqb, leb}
-use Rattle.lists.specs.Lists.{pick, countOf}
+use lib.Dec.{leb}
+use Rattle.lists.specs.Lists.{countOf}
+use Rattle.lists.specs.Checks.{Check, check, checked}
 use Rattle.planner_rules.specs.declared.request.Request.{Request}
 use Rattle.planner_rules.specs.declared.setup.Setup.{Setup}
-use Rattle.planner_rules.specs.Shares.{setupNumber}
+use Rattle.planner_rules.specs.Shares.{setupChecks}
 use Rattle.frames_rules.specs.Building.{isAddress, selectiveRanged}
 use Rattle.station_rules.specs.declared.state.Value.the-variants.{Never}
-use Rattle.station_rules.specs.declared.state.Target.{Target}
 use Rattle.station_rules.specs.declared.state.Targets.{Targets}
 use Rattle.station_rules.specs.declared.state.Waiting.{Waiting}
 use Rattle.station_rules.specs.declared.state.Station.{Station}
-use Rattle.station_rules.specs.declared.state.Answer.{Answer}
+use Rattle.station_rules.specs.declared.state.Outcome.{Outcome}
 use Rattle.station_rules.specs.declared.state.Report.{Report}
-use Rattle.station_rules.specs.State.{targetsOf, inList, fresh, targetAt, targetsWith, targetsWithout, targetsPut, requestsOf, isOf, waitingWith, waitingWithout, planWithdrawn, withTargets, withWaiting, emptied}
+use Rattle.station_rules.specs.State.{targetsOf, inList, fresh, withEdges, targetAt, targetsWith, targetsWithout, targetsPut, requestsOf, isOf}
+use Rattle.station_rules.specs.State.{waitingWith}
+use Rattle.station_rules.specs.State.{waitingWithout, planWithdrawn, withTargets, withWaiting, withPlan, emptied}
 
 -- "a refusal returns its number alone and changes nothing"
-abbrev pub refused : ℕ → Station → Answer
-refused n s = record { number = n; station = s }
+abbrev pub refused : Station → Check → Outcome
+refused s c = record { number = c .number; station = s }
 
--- "0 means done"
-abbrev pub done : Station → Answer
-done s = record { number = 0; station = s }
+-- "0 means done": the call leaves this station
+abbrev pub leaves : Station → Outcome
+leaves s = record { number = 0; station = s }
 
 -- ---- setup: 2 or 3, else "a setup empties everything"
-unfoldable pub setUp : Station → Setup → Answer
-setUp s h = pick (not (eqb (setupNumber h) 0)) (refused (setupNumber h) s) (done (emptied h s))
+unfoldable pub setUp : Station → Setup → Outcome
+setUp s h = checked (setupChecks h) (refused s) (leaves (emptied h s))
 
 -- ---- ranges
 -- "near ≤ far ≤ R"
@@ -43,58 +46,73 @@ requestRanged q = leb (q .unit) 7 && selectiveRanged (q .uf) (q .pc) (q .rr) (q 
 abbrev pub targetsFull : Targets → Bool
 targetsFull t = leb 64 (length (targetsOf t))
 
--- "16 requests of this unit waiting", or no slot left, which no history of calls brings about with fewer than 16
+-- "16 requests of this unit waiting"
+abbrev pub sixteenWait : ℕ → Waiting → Bool
+sixteenWait u w = leb 16 (countOf (isOf u) (requestsOf w))
+
+-- that, or no slot left, which no history of calls brings about with fewer than 16
 unfoldable pub unitFull : ℕ → Waiting → Bool
-unitFull u w = leb 16 (countOf (isOf u) (requestsOf w)) || leb 128 (length (requestsOf w))
+unitFull u w = sixteenWait u w || leb 128 (length (requestsOf w))
 
--- ---- new target: 2, 5, 6, else it is the last in the list, and nothing was heard of it
-unfoldable pub newTarget : Station → ℕ → ℕ → ℕ → Answer
-newTarget s a near far =
-    pick (not (targetRanged a near far (s .setup .reach))) (refused 2 s)
-    (pick (inList a (s .targets)) (refused 5 s)
-    (pick (targetsFull (s .targets)) (refused 6 s)
-    (done (withTargets (targetsWith (fresh a near far) (s .targets)) s))))
+-- ---- new target: it is the last in the list, and nothing was heard of it
+unfoldable pub newTargetChecks : Station → ℕ → ℕ → ℕ → List Check
+newTargetChecks s a near far =
+    check 2 (not (targetRanged a near far (s .setup .reach)))
+    ∷ check 5 (inList a (s .targets))
+    ∷ check 6 (targetsFull (s .targets))
+    ∷ []
 
--- ---- removal: 2, 4, else "removal drops the target's requests and withdraws its open entries"
+abbrev pub withNew : ℕ → ℕ → ℕ → Station → Station
+withNew a near far s = withTargets (targetsWith (fresh a near far) (s .targets)) s
+
+unfoldable pub newTarget : Station → ℕ → ℕ → ℕ → Outcome
+unfolding newTargetChecks
+newTarget s a near far = checked (newTargetChecks s a near far) (refused s) (leaves (withNew a near far s))
+
+-- ---- removal: "removal drops the target's requests and withdraws its open entries"
+-- of an address alone: that of a removal and that of a report
+unfoldable pub heldChecks : Station → ℕ → List Check
+heldChecks s a = check 2 (not (isAddress a)) ∷ check 4 (not (inList a (s .targets))) ∷ []
+
 unfoldable pub without : ℕ → Station → Station
 without a s =
-    record {
-      targets = targetsWithout a (s .targets);
-      waiting = waitingWithout a (s .waiting);
-      plan = planWithdrawn a (s .plan);
-      setup = s .setup;
-    }
+    withTargets (targetsWithout a (s .targets)) (withWaiting (waitingWithout a (s .waiting)) (withPlan (planWithdrawn a (s .plan)) s))
 
-unfoldable pub removed : Station → ℕ → Answer
-removed s a =
-    pick (not (isAddress a)) (refused 2 s)
-    (pick (not (inList a (s .targets))) (refused 4 s)
-    (done (without a s)))
+unfoldable pub removed : Station → ℕ → Outcome
+unfolding heldChecks
+removed s a = checked (heldChecks s a) (refused s) (leaves (without a s))
 
--- ---- move: 2, 4, else "a move changes near and far, not the present plan"
-abbrev pub edged : ℕ → ℕ → Target → Target
-edged near far t = record { address = t .address; near = near; far = far; ac = t .ac; id = t .id }
+-- ---- move: "a move changes near and far, not the present plan"
+unfoldable pub moveChecks : Station → ℕ → ℕ → ℕ → List Check
+moveChecks s a near far =
+    check 2 (not (targetRanged a near far (s .setup .reach))) ∷ check 4 (not (inList a (s .targets))) ∷ []
 
-unfoldable pub moved : Station → ℕ → ℕ → ℕ → Answer
-moved s a near far =
-    pick (not (targetRanged a near far (s .setup .reach))) (refused 2 s)
-    (pick (not (inList a (s .targets))) (refused 4 s)
-    (done (withTargets (targetsPut a (edged near far (targetAt a (s .targets))) (s .targets)) s)))
+abbrev pub withMoved : ℕ → ℕ → ℕ → Station → Station
+withMoved a near far s = withTargets (targetsPut a (withEdges near far (targetAt a (s .targets))) (s .targets)) s
 
--- ---- request: 2, 4, 6, else it waits as the youngest
-unfoldable pub requested : Station → Request → Answer
-requested s q =
-    pick (not (requestRanged q)) (refused 2 s)
-    (pick (not (inList (q .address) (s .targets))) (refused 4 s)
-    (pick (unitFull (q .unit) (s .waiting)) (refused 6 s)
-    (done (withWaiting (waitingWith q (s .waiting)) s))))
+unfoldable pub moved : Station → ℕ → ℕ → ℕ → Outcome
+unfolding moveChecks
+moved s a near far = checked (moveChecks s a near far) (refused s) (leaves (withMoved a near far s))
 
--- ---- report: 2, 4, else what the target said, AC and ID each with its age or never heard
-abbrev pub refusedReport : ℕ → Report
-refusedReport n = record { number = n; ac = Never; id = Never }
+-- ---- request: it waits as the youngest; line 6 is for a unit that is full
+unfoldable pub requestChecks : Bool → Station → Request → List Check
+requestChecks full s q =
+    check 2 (not (requestRanged q)) ∷ check 4 (not (inList (q .address) (s .targets))) ∷ check 6 full ∷ []
+
+abbrev pub withRequest : Request → Station → Station
+withRequest q s = withWaiting (waitingWith q (s .waiting)) s
+
+unfoldable pub requested : Station → Request → Outcome
+unfolding requestChecks
+requested s q = checked (requestChecks (unitFull (q .unit) (s .waiting)) s q) (refused s) (leaves (withRequest q s))
+
+-- ---- report: what the target said, AC and ID each with its age or never heard
+abbrev pub notReported : Check → Report
+notReported c = record { number = c .number; ac = Never; id = Never }
+
+abbrev pub reportHeld : Station → ℕ → Report
+reportHeld s a = record { number = 0; ac = targetAt a (s .targets) .ac; id = targetAt a (s .targets) .id }
 
 unfoldable pub reported : Station → ℕ → Report
-reported s a =
-    pick (not (isAddress a)) (refusedReport 2)
-    (pick (not (inList a (s .targets))) (refusedReport 4)
-    (record { number = 0; ac = targetAt a (s .targets) .ac; id = targetAt a (s .targets) .id }))
+unfolding heldChecks
+reported s a = checked (heldChecks s a) notReported (reportHeld s a)

@@ -17,17 +17,17 @@ use Rattle.station_rules.specs.declared.state.Station.{Station}
 use Rattle.station_rules.specs.State.{entriesOf, requestsOf}
 use Rattle.station_rules.specs.Calls.{reported}
 use Rattle.station_rules.specs.Planning.{asked, askFor, nextPlan}
-use Rattle.station_rules.specs.Replies.{Replied, expected, replied}
+use Rattle.station_rules.specs.Replies.{Received, Replied, requestFor, expected, replied}
 use Rattle.station_rules.specs.History.{Call, answer, after}
 use Rattle.lists.specs.Checks.{given}
-use Rattle.station_rules.specs.Numbers.{checks, requestNumbered}
+use Rattle.station_rules.specs.Numbers.{checks}
 use Rattle.station_rules.specs.Seen.{Kind, events, lastSaid, shown, reportOf}
 
 -- demand 1: each number is given exactly when the table says, and a refusal changes nothing, neither the station nor a lent buffer
 pub record Demand1 (cs : List Call) : Type 0 where
   pub numbers : (c : Call) → answer (after cs) c .number ≡ given (checks (after cs) c)
   pub unchanged : (c : Call) → (answer (after cs) c .number ≡ 0 → ⊥) → answer (after cs) c .station ≡ after cs
-  pub unwritten : (k tag : ℕ) (msg marks out : List ℕ) → (replied (after cs) k tag msg marks out .number ≡ 0 → ⊥) → replied (after cs) k tag msg marks out .output ≡ out
+  pub unwritten : (r : Received) → (replied (after cs) r .number ≡ 0 → ⊥) → replied (after cs) r .output ≡ r .output
 
 -- demand 2, ages: a report gives the value that the aircraft last said and the number of plans since; it is never heard exactly if it never said one
 pub record Ages (cs : List Call) : Type 0 where
@@ -35,9 +35,9 @@ pub record Ages (cs : List Call) : Type 0 where
 
 -- demand 2, replies: what a taken reply writes is the one message that differs from what came in at marked places only and has the entry's address as
 -- its overlay; the flips are the places where the two differ; its format is the expected one
-pub record Believed (s : Station) (k : ℕ) (msg marks : List ℕ) (r : Replied) : Type 0 where
-  pub corrected : Corrected msg marks (requestNumbered k s .address) (r .flips) (r .output)
-  pub format : formatOf (r .output) ≡ expected (requestNumbered k s)
+pub record Believed (s : Station) (r : Received) (a : Replied) : Type 0 where
+  pub corrected : Corrected (r .message) (r .marks) (requestFor s r .address) (a .flips) (a .output)
+  pub format : formatOf (a .output) ≡ expected (requestFor s r)
 
 -- how many ticks a reply lasts: "replies 256 short and 480 long", by its bytes
 abbrev pub lasts : List ℕ → ℕ

@@ -11,7 +11,7 @@ use Rattle.planner_rules.specs.Plan.{Board, plan}
 use Rattle.station_rules.specs.declared.state.Targets.{Targets}
 use Rattle.station_rules.specs.declared.state.Plan.{Plan}
 use Rattle.station_rules.specs.declared.state.Station.{Station}
-use Rattle.station_rules.specs.State.{targetAt, targetsOlder, requestsOf, waitingAs, noAsk}
+use Rattle.station_rules.specs.State.{targetAt, targetsOlder, requestsOf, waitingAs, noAsk, withTargets, withWaiting, withPlan}
 
 -- a request with near and far of its target as they are now
 abbrev pub askFor : Targets → Request → Ask
@@ -38,9 +38,6 @@ planWith v tag p = record { list = over v (p .list); n = length v; tag = tag }
 -- a plan is never refused: "placed requests leave the waiting list", and every age present is one more
 unfoldable pub nextPlan : Station → ℕ → Station
 nextPlan s tag =
-    record {
-      targets = targetsOlder (s .targets);
-      waiting = waitingAs (map requestOf (boardFor s .waiting)) (s .waiting);
-      plan = planWith (boardFor s .placed) tag (s .plan);
-      setup = s .setup;
-    }
+    withTargets (targetsOlder (s .targets))
+    (withWaiting (waitingAs (map requestOf (boardFor s .waiting)) (s .waiting))
+    (withPlan (planWith (boardFor s .placed) tag (s .plan)) s))

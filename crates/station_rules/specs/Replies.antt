@@ -1,13 +1,14 @@
 -- A reply to an entry of the plan in force: its checks in order, what it is answered, and the station afterwards.
 use Prim.Native.Nat.{ℕ, _+_, _-_, _^_}
-use mathlib.Core.List.{List}
+use mathlib.Core.List.{List, [], _∷_, _++_}
 use mathlib.Core.Bool.{Bool, true, false, not, _&&_, _||_}
 use lib.ListN.{length, getD, set}
 use lib.Dec.{eqb, leb, ltb}
 use lib.IntN.{ℤ, pos, subℕ}
 use Rattle.lists.specs.Lists.{pick}
-use Rattle.parity_rules.specs.Answers.{Outcome}
-use Rattle.parity_rules.specs.Correction.{sized, correction}
+use Rattle.lists.specs.Checks.{Check, check, checked}
+use Rattle.parity_rules.specs.Answers.{Correction, notCorrected}
+use Rattle.parity_rules.specs.Correction.{sized, matchesOf, flippedBy, correctionChecks}
 use Rattle.frames_rules.specs.declared.answers.Draws.{Draws}
 use Rattle.frames_rules.specs.declared.answers.Draws.the-variants.{Format, Nothing}
 use Rattle.frames_rules.specs.Fields.{headOf, valueAt, atACorID}
@@ -25,7 +26,7 @@ use Rattle.station_rules.specs.declared.state.Targets.{Targets}
 use Rattle.station_rules.specs.declared.state.Plan.{Plan}
 use Rattle.station_rules.specs.declared.state.Station.{Station}
 use Rattle.station_rules.specs.declared.state.Reply.{Reply}
-use Rattle.station_rules.specs.State.{inList, targetAt, targetsPut, entriesOf, planAs, withStatus, noEntry}
+use Rattle.station_rules.specs.State.{inList, withAC, withID, targetAt, targetsPut, entriesOf, planAs, withStatus, noEntry, withTargets, withPlan}
 
 -- ---- what the entry's request expects
 -- a request that draws nothing, which no call lets in, would expect format 0
@@ -57,21 +58,10 @@ inWindow e s = leb (e .start + earliest + e .ask .near) s && leb s (e .start + l
 abbrev pub delayOf : Entry → ℕ → ℤ
 delayOf e s = subℕ s (e .start + delay)
 
--- ---- "corrected format not the expected one": 14, and nothing is written
-unfoldable pub ofFormat : ℕ → List ℕ → Outcome → Outcome
-ofFormat f out o =
-    pick (eqb (o .number) 0) (pick (eqb (formatOf (o .output)) f) o (record { number = 14; flips = 0; output = out })) o
-
 -- ---- what an accepted reply leaves
 -- "an accepted reply sets AC or ID with age 0"
-abbrev pub saidID : ℕ → Target → Target
-saidID v t = record { address = t .address; near = t .near; far = t .far; ac = t .ac; id = Heard v 0 }
-
-abbrev pub saidAC : ℕ → Target → Target
-saidAC v t = record { address = t .address; near = t .near; far = t .far; ac = Heard v 0; id = t .id }
-
 abbrev pub saidIn : ℕ → ℕ → Target → Target
-saidIn f v t = pick (holdsID f) (saidID v t) (saidAC v t)
+saidIn f v t = pick (holdsID f) (withID (Heard v 0) t) (withAC (Heard v 0) t)
 
 -- the target of the request said it; an open entry has its target in every history of calls
 unfoldable pub targetsHeard : Request → ℕ → Targets → Targets
@@ -81,6 +71,10 @@ targetsHeard q v t =
 -- the entry of a number
 abbrev pub entryNumbered : ℕ → Station → Entry
 entryNumbered k s = getD (entriesOf (s .plan)) k noEntry
+
+-- the request of an entry
+abbrev pub requestNumbered : ℕ → Station → Request
+requestNumbered k s = entryNumbered k s .ask .request
 
 abbrev pub isOpen : Status → Bool
 isOpen Open = true
@@ -92,12 +86,71 @@ planAnswered k p = planAs (set (entriesOf p) k (withStatus Answered (getD (entri
 
 unfoldable pub afterReply : ℕ → List ℕ → Station → Station
 afterReply k m s =
-    record {
-      targets = targetsHeard (entryNumbered k s .ask .request) (valueIn m) (s .targets);
-      waiting = s .waiting;
-      plan = planAnswered k (s .plan);
-      setup = s .setup;
-    }
+    withTargets (targetsHeard (requestNumbered k s) (valueIn m) (s .targets)) (withPlan (planAnswered k (s .plan)) s)
+
+-- ---- what a reply is given, and the buffer that it is lent
+pub record Received : Type 0 where
+  pub entry : ℕ
+  pub tag : ℕ
+  pub message : List ℕ
+  pub marks : List ℕ
+  pub output : List ℕ
+
+abbrev pub received : ℕ → ℕ → List ℕ → List ℕ → List ℕ → Received
+received k tag msg marks out = record { entry = k; tag = tag; message = msg; marks = marks; output = out }
+
+-- its entry, the request of that, and its start on the plan's clock
+abbrev pub entryFor : Station → Received → Entry
+entryFor s r = entryNumbered (r .entry) s
+
+abbrev pub requestFor : Station → Received → Request
+requestFor s r = requestNumbered (r .entry) s
+
+abbrev pub startFor : Station → Received → ℕ
+startFor s r = startOf (r .tag) (s .plan .tag)
+
+-- the subsets of its marked bits that match, over the address of its entry
+abbrev pub matchesFor : Request → Received → List (List ℕ)
+matchesFor q r = matchesOf (r .message) (r .marks) (q .address)
+
+-- ---- its checks
+-- by its entry: 8, 9, 10
+unfoldable pub openChecks : Entry → ℕ → ℕ → List Check
+openChecks e start n =
+    check 8 (not (isOpen (e .status)))
+    ∷ check 9 (not (eqb n (lengthOf (expected (e .ask .request)))))
+    ∷ check 10 (not (inWindow e start))
+    ∷ []
+
+-- before the correction: 1, 7, then by its entry
+unfoldable pub entryChecks : Station → Received → List Check
+unfolding openChecks
+entryChecks s r =
+    check 1 (not (sized (length (r .message)) (length (r .marks)) (length (r .output))))
+    ∷ check 7 (not (ltb (r .entry) (length (entriesOf (s .plan)))))
+    ∷ openChecks (entryFor s r) (startFor s r) (length (r .message))
+
+-- 14: "corrected format not the expected one"
+unfoldable pub formatChecks : ℕ → List ℕ → List (List ℕ) → List Check
+formatChecks f msg ms = check 14 (not (eqb (formatOf (flippedBy msg ms .output)) f)) ∷ []
+
+-- of a correction that must have a format: its own, then that of the format
+unfoldable pub correctedChecks : ℕ → List ℕ → List ℕ → ℕ → ℕ → List ℕ → List Check
+unfolding correctionChecks formatChecks
+correctedChecks f msg marks overlay limit out =
+    correctionChecks msg marks overlay limit out ++ formatChecks f msg (matchesOf msg marks overlay)
+
+-- what it comes to, where a refusal leaves the buffer `left`
+unfoldable pub correctedAs : ℕ → List ℕ → List ℕ → ℕ → ℕ → List ℕ → List ℕ → Correction
+unfolding correctedChecks
+correctedAs f msg marks overlay limit out left =
+    checked (correctedChecks f msg marks overlay limit out) (notCorrected left) (flippedBy msg (matchesOf msg marks overlay))
+
+-- for the request of its entry, over that one's address, by the station's limit
+abbrev pub settleChecks : Station → Received → List Check
+settleChecks s r =
+    let q = requestFor s r in
+    correctedChecks (expected q) (r .message) (r .marks) (q .address) (s .setup .limit) (r .output)
 
 -- ---- what the caller is told, what the corrected buffer then holds, and the station afterwards
 pub record Replied : Type 0 where
@@ -111,27 +164,24 @@ abbrev pub told : Reply → List ℕ → Replied
 told r out = record { number = r .number; flips = r .flips; delay = r .delay; output = out; station = r .station }
 
 -- "a refusal returns its number alone and changes nothing, neither state nor lent buffers"
-abbrev pub refusedReply : ℕ → List ℕ → Station → Replied
-refusedReply n out s = record { number = n; flips = 0; delay = pos 0; output = out; station = s }
+abbrev pub refusedReply : Station → List ℕ → Check → Replied
+refusedReply s out c = record { number = c .number; flips = 0; delay = pos 0; output = out; station = s }
 
--- by the correction: 11, 12, 13, then 14, else taken
-unfoldable pub settled : ℕ → ℕ → List ℕ → Outcome → Station → Replied
-settled k start out o s =
-    pick (not (eqb (o .number) 0)) (refusedReply (o .number) out s)
-    (record { number = 0; flips = o .flips; delay = delayOf (entryNumbered k s) start; output = o .output; station = afterReply k (o .output) s })
+-- a reply that is taken with a correction
+abbrev pub takenAs : Station → Received → Correction → Replied
+takenAs s r o =
+    record { number = 0; flips = o .flips; delay = delayOf (entryFor s r) (startFor s r); output = o .output; station = afterReply (r .entry) (o .output) s }
 
--- the correction of a reply to the entry, over its address and by the station's limit
-unfoldable pub corrected : ℕ → List ℕ → List ℕ → List ℕ → Station → Outcome
-corrected k msg marks out s =
-    let q = entryNumbered k s .ask .request in
-    ofFormat (expected q) out (correction msg marks (q .address) (s .setup .limit) out)
+-- the message with the one subset flipped
+abbrev pub corrected : Station → Received → Correction
+corrected s r = flippedBy (r .message) (matchesFor (requestFor s r) r)
 
--- a reply: 1, 7, 8, 9, 10, then by the correction
-unfoldable pub replied : Station → ℕ → ℕ → List ℕ → List ℕ → List ℕ → Replied
-replied s k tag msg marks out =
-    pick (not (sized (length msg) (length marks) (length out))) (refusedReply 1 out s)
-    (pick (not (ltb k (length (entriesOf (s .plan))))) (refusedReply 7 out s)
-    (pick (not (isOpen (entryNumbered k s .status))) (refusedReply 8 out s)
-    (pick (not (eqb (length msg) (lengthOf (expected (entryNumbered k s .ask .request))))) (refusedReply 9 out s)
-    (pick (not (inWindow (entryNumbered k s) (startOf tag (s .plan .tag)))) (refusedReply 10 out s)
-    (settled k (startOf tag (s .plan .tag)) out (corrected k msg marks out s) s)))))
+-- by the correction
+unfoldable pub settled : Station → Received → Replied
+unfolding correctedChecks
+settled s r = checked (settleChecks s r) (refusedReply s (r .output)) (takenAs s r (corrected s r))
+
+-- a reply
+unfoldable pub replied : Station → Received → Replied
+unfolding entryChecks
+replied s r = checked (entryChecks s r) (refusedReply s (r .output)) (settled s r)

@@ -14,57 +14,51 @@ use Rattle.station_rules.specs.declared.state.Report.{Report}
 use Rattle.station_rules.specs.declared.state.Station.{Station}
 use Rattle.station_rules.specs.State.{entriesOf, noAsk}
 use Rattle.station_rules.specs.Planning.{nextPlan}
-use Rattle.station_rules.specs.Replies.{expected, holdsID, valueIn, replied}
+use Rattle.station_rules.specs.Replies.{expected, holdsID, valueIn, Received, replied}
 use Rattle.station_rules.specs.History.{Call, setup, new, remove, move, request, plan, reply, report, answer, after}
 
--- ---- what the caller saw of a call: the call, its number, what each entry of a plan asks, and the corrected message of a reply
-pub record Event : Type 0 where
-  pub call : Call
-  pub number : ℕ
-  pub asks : List Ask
-  pub output : List ℕ
+-- ---- what a call that is done does, as its caller sees it: a setup empties all; a target comes or goes, and what it said is gone; a plan is made, with what
+-- each entry asks; the reply to an entry is taken, with the corrected message; or none of these
+pub data Effect : Type 0 where
+  empties : Effect
+  gone : ℕ → Effect
+  planned : List Ask → Effect
+  spoke : ℕ → List ℕ → Effect
+  none : Effect
 
-abbrev pub asksShown : Station → Call → List Ask
-asksShown s (setup h) = []
-asksShown s (new a near far) = []
-asksShown s (remove a) = []
-asksShown s (move a near far) = []
-asksShown s (request q) = []
-asksShown s (plan tag) = map askOf (entriesOf (nextPlan s tag .plan))
-asksShown s (reply k tag msg marks out) = []
-asksShown s (report a) = []
+-- of each call, by the plan that it makes and the message that it corrects
+abbrev pub effectBy : (ℕ → List Ask) → (Received → List ℕ) → Call → Effect
+effectBy made corrects (setup h) = empties
+effectBy made corrects (new a near far) = gone a
+effectBy made corrects (remove a) = gone a
+effectBy made corrects (move a near far) = none
+effectBy made corrects (request q) = none
+effectBy made corrects (plan tag) = planned (made tag)
+effectBy made corrects (reply r) = spoke (r .entry) (corrects r)
+effectBy made corrects (report a) = none
 
-abbrev pub outputShown : Station → Call → List ℕ
-outputShown s (setup h) = []
-outputShown s (new a near far) = []
-outputShown s (remove a) = []
-outputShown s (move a near far) = []
-outputShown s (request q) = []
-outputShown s (plan tag) = []
-outputShown s (reply k tag msg marks out) = replied s k tag msg marks out .output
-outputShown s (report a) = []
+abbrev pub effect : Station → Call → Effect
+effect s c = effectBy (λ tag. map askOf (entriesOf (nextPlan s tag .plan))) (λ r. replied s r .output) c
 
-abbrev pub event : Station → Call → Event
-event s c = record { call = c; number = answer s c .number; asks = asksShown s c; output = outputShown s c }
+-- "a refusal .. changes nothing"
+abbrev pub seenAs : ℕ → Effect → Effect
+seenAs number e = pick (eqb number 0) e none
 
-unfoldable pub events : List Call → List Event
+unfoldable pub events : List Call → List Effect
 events [] = []
-events (c ∷ cs) = event (after cs) c ∷ events cs
+events (c ∷ cs) = seenAs (answer (after cs) c .number) (effect (after cs) c) ∷ events cs
 
 -- ---- what each entry of the newest plan asks
-abbrev pub asksAfter : Call → List Ask → List Ask → List Ask
-asksAfter (setup h) made old = []
-asksAfter (new a near far) made old = old
-asksAfter (remove a) made old = old
-asksAfter (move a near far) made old = old
-asksAfter (request q) made old = old
-asksAfter (plan tag) made old = made
-asksAfter (reply k tag msg marks out) made old = old
-asksAfter (report a) made old = old
+abbrev pub asksAfter : Effect → List Ask → List Ask
+asksAfter empties old = []
+asksAfter (gone a) old = old
+asksAfter (planned asks) old = asks
+asksAfter (spoke k m) old = old
+asksAfter none old = old
 
-unfoldable pub inForce : List Event → List Ask
+unfoldable pub inForce : List Effect → List Ask
 inForce [] = []
-inForce (e ∷ h) = pick (eqb (e .number) 0) (asksAfter (e .call) (e .asks) (inForce h)) (inForce h)
+inForce (e ∷ h) = asksAfter e (inForce h)
 
 -- ---- what an aircraft last said, and how many plans were made since
 pub data Kind : Type 0 where
@@ -89,20 +83,16 @@ abbrev pub isFrom : Kind → ℕ → Ask → Bool
 isFrom i a q = eqb (q .request .address) a && draws i (holdsID (expected (q .request)))
 
 -- a taken reply says its value, a plan is one more, and what was said is gone with the target or with a setup
-abbrev pub saidAfter : Kind → ℕ → Call → List ℕ → List Ask → Said → Said
-saidAfter i a (setup h) m force old = never
-saidAfter i a (new b near far) m force old = pick (eqb b a) never old
-saidAfter i a (remove b) m force old = pick (eqb b a) never old
-saidAfter i a (move b near far) m force old = old
-saidAfter i a (request q) m force old = old
-saidAfter i a (plan tag) m force old = onePlanMore old
-saidAfter i a (reply k tag msg marks out) m force old = pick (isFrom i a (getD force k noAsk)) (said (valueIn m) 0) old
-saidAfter i a (report b) m force old = old
+abbrev pub saidAfter : Kind → ℕ → List Ask → Effect → Said → Said
+saidAfter i a force empties old = never
+saidAfter i a force (gone b) old = pick (eqb b a) never old
+saidAfter i a force (planned asks) old = onePlanMore old
+saidAfter i a force (spoke k m) old = pick (isFrom i a (getD force k noAsk)) (said (valueIn m) 0) old
+saidAfter i a force none old = old
 
-unfoldable pub lastSaid : Kind → ℕ → List Event → Said
+unfoldable pub lastSaid : Kind → ℕ → List Effect → Said
 lastSaid i a [] = never
-lastSaid i a (e ∷ h) =
-    pick (eqb (e .number) 0) (saidAfter i a (e .call) (e .output) (inForce h) (lastSaid i a h)) (lastSaid i a h)
+lastSaid i a (e ∷ h) = saidAfter i a (inForce h) e (lastSaid i a h)
 
 -- ---- as a report gives it: 65,535 "means that many or more"
 abbrev pub shown : Said → Value

@@ -43,6 +43,16 @@ inList a t = ltb (placeIn (targetsOf t) a) (length (targetsOf t))
 abbrev pub fresh : ℕ → ℕ → ℕ → Target
 fresh a near far = record { address = a; near = near; far = far; ac = Never; id = Never }
 
+-- the target with other edges, with another AC, with another ID
+abbrev pub withEdges : ℕ → ℕ → Target → Target
+withEdges near far t = record { address = t .address; near = near; far = far; ac = t .ac; id = t .id }
+
+abbrev pub withAC : Value → Target → Target
+withAC v t = record { address = t .address; near = t .near; far = t .far; ac = v; id = t .id }
+
+abbrev pub withID : Value → Target → Target
+withID v t = record { address = t .address; near = t .near; far = t .far; ac = t .ac; id = v }
+
 -- the target of the address, or one at the station where there is none
 abbrev pub targetAt : ℕ → Targets → Target
 targetAt a t = getD (targetsOf t) (placeIn (targetsOf t) a) (fresh 0 0 0)
@@ -70,7 +80,7 @@ valueAfter Never = Never
 valueAfter (Heard v age) = Heard v (ageAfter age)
 
 abbrev pub older : Target → Target
-older t = record { address = t .address; near = t .near; far = t .far; ac = valueAfter (t .ac); id = valueAfter (t .id) }
+older t = withAC (valueAfter (t .ac)) (withID (valueAfter (t .id)) t)
 
 -- every age present is one more
 abbrev pub targetsOlder : Targets → Targets
@@ -126,6 +136,12 @@ withTargets t s = record { targets = t; waiting = s .waiting; plan = s .plan; se
 abbrev pub withWaiting : Waiting → Station → Station
 withWaiting w s = record { targets = s .targets; waiting = w; plan = s .plan; setup = s .setup }
 
+abbrev pub withPlan : Plan → Station → Station
+withPlan p s = record { targets = s .targets; waiting = s .waiting; plan = p; setup = s .setup }
+
+abbrev pub withSetup : Setup → Station → Station
+withSetup h s = record { targets = s .targets; waiting = s .waiting; plan = s .plan; setup = h }
+
 -- ---- empty parts: every slot the same
 abbrev pub noRequest : Request
 noRequest = record { unit = 0; address = 0; uf = 0; pc = 0; rr = 0; di = 0; sd = 0; ma = 0 }
@@ -147,11 +163,15 @@ beforeSetup =
     }
 
 -- "a setup empties everything": nothing held, nothing waiting, no plan, and this setup; the slots are as they were
+abbrev pub noTargets : Targets → Targets
+noTargets t = record { list = t .list; n = 0 }
+
+abbrev pub noneWaiting : Waiting → Waiting
+noneWaiting w = record { list = w .list; n = 0 }
+
+abbrev pub noPlan : Plan → Plan
+noPlan p = record { list = p .list; n = 0; tag = 0 }
+
 unfoldable pub emptied : Setup → Station → Station
 emptied h s =
-    record {
-      targets = record { list = s .targets .list; n = 0 };
-      waiting = record { list = s .waiting .list; n = 0 };
-      plan = record { list = s .plan .list; n = 0; tag = 0 };
-      setup = h;
-    }
+    withSetup h (withTargets (noTargets (s .targets)) (withWaiting (noneWaiting (s .waiting)) (withPlan (noPlan (s .plan)) s)))

@@ -1,7 +1,7 @@
 // The state of a station. What its calls answer stands in specs/, and what holds of every history of calls in proofs/; the calls themselves are in crate station.
 mod state;
 
-pub use state::Answer;
+pub use state::Outcome;
 pub use state::Plan;
 pub use state::Reply;
 pub use state::Report;

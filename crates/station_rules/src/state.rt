@@ -45,7 +45,7 @@ pub struct Station {
 }
 
 // The number that a call is given, and the station afterwards.
-pub struct Answer {
+pub struct Outcome {
     pub number: u8,
     pub station: Station,
 }

@@ -18,7 +18,8 @@ pub falls-after : {s l m : List ℕ} {r : Run} {at : ℕ} {q : Progress} → Adv
 falls-after {s} {r = r} a e = rw (a .run) (falls s r e)
 
 -- what is held then is what was held, and the record's lines whole, if there was room for one record more
-pub shown : {s l m : List ℕ} {r : Run} {at : ℕ} {q : Progress} → length l ≡ room → isFull at ≡ false → Advanced s r at l m q → take (q .end) m ≡ take at l ++ linesNow s r
+pub shown : {s l m : List ℕ} {r : Run} {at : ℕ} {q : Progress} → length l ≡ room → isFull at ≡ false → Advanced s r at l m q
+    → take (q .end) m ≡ take at l ++ linesNow s r
 shown {s} {l} {m} {r} {at} {q} z f a =
     let t = linesNow s r in
     let free = not-full at f in

@@ -17,7 +17,6 @@ use Rattle.reader_rules.specs.Fields.{replyAt}
 use Rattle.reader_rules.proofs.Parts.{parts-in-order}
 use Rattle.station_rules.specs.declared.state.Station.{Station}
 use Rattle.station_rules.specs.declared.state.Report.{Report}
-use Rattle.station_rules.specs.Calls.{refused}
 use Rattle.station_rules.specs.Replies.{Replied}
 use Rattle.stream.specs.declared.obey.Done.{Done}
 use Rattle.stream_rules.specs.Lines.{answerLine, replyLine, reportLine}
@@ -25,16 +24,16 @@ use Rattle.stream.specs.Calls.{Within, Did, Stepped, Advanced}
 use Rattle.stream.specs.declared.step.Step.{Step}
 use Rattle.stream_rules.specs.declared.run.Run.{Run}
 use Rattle.stream_rules.proofs.Runs.{stays-ended, lays-nothing}
-use Rattle.stream_rules.specs.Step.{Outcome, answered, repliedTo, replyTo, zeros, reportedTo, obeyed}
-use Rattle.stream_rules.specs.Run.{outcome, goesOn, outcomeNow, linesNow, stepped, advanced, longest}
+use Rattle.stream_rules.specs.Step.{Obeyed, refusedAt, answered, repliedTo, replyTo, zeros, reportedTo, obeyed}
+use Rattle.stream_rules.specs.Run.{obeyedAt, goesOn, obeyedNow, linesNow, stepped, advanced, longest}
 use Rattle.stream.proofs.Lengths.{within-more, within-of}
 
--- an outcome by another name
-pub did-of : {o p : Outcome} {at : ℕ} {l m : List ℕ} {r : Done} → o ≡ p → Did o at l m r → Did p at l m r
+-- what a record does, by another name
+pub did-of : {o p : Obeyed} {at : ℕ} {l m : List ℕ} {r : Done} → o ≡ p → Did o at l m r → Did p at l m r
 did-of e d = rw e at d
 
--- the lines of an outcome, by their own name
-pub did-lines : {o : Outcome} {at : ℕ} {l m t : List ℕ} {r : Done} (k : ℕ) → k ≤ longest → r .station ≡ o .station → t ≡ o .lines → Within k t at l m (r .end)
+-- its lines, by their own name
+pub did-lines : {o : Obeyed} {at : ℕ} {l m t : List ℕ} {r : Done} (k : ℕ) → k ≤ longest → r .station ≡ o .station → t ≡ o .lines → Within k t at l m (r .end)
     → Did o at l m r
 did-lines k h e f w = record { station = e; lines = within-more k longest h (within-of f w) }
 
@@ -88,7 +87,7 @@ module _ (s : List ℕ) (n b : ℕ) (st : Station) {kind : ℕ} where
           rw z
 
   -- no kind at all
-  pub of-none : Rest kind → (kind < 1) ⊎ (8 ≤ kind) → answered n kind (refused 16 st) ≡ obeyed s n kind b st
+  pub of-none : Rest kind → (kind < 1) ⊎ (8 ≤ kind) → refusedAt n kind 16 st ≡ obeyed s n kind b st
   unfolding obeyed
   of-none h out =
       let not-6 : kind ≡ 6 → ⊥ = λ e. ⊎-elim (λ l. omega arith) (λ l. omega arith) out in
@@ -107,28 +106,28 @@ front-zeros kind n e = rw e (go (eqb kind 7))
 -- ---- a step by what stands at the place
 
 module _ (s : List ℕ) (place n : ℕ) (st : Station) {at : ℕ} {l : List ℕ} where
-  step-as : (f : Found) {m : List ℕ} {k : ℕ} → recordAt s place ≡ f → Within longest (outcome s n st f .lines) at l m k
-      → Stepped s place n st at l m (record { station = outcome s n st f .station; more = goesOn f; next = nextPlace f place; end = k })
+  step-as : (f : Found) {m : List ℕ} {k : ℕ} → recordAt s place ≡ f → Within longest (obeyedAt s n st f .lines) at l m k
+      → Stepped s place n st at l m (record { station = obeyedAt s n st f .station; more = goesOn f; next = nextPlace f place; end = k })
   step-as f h w = record { station = rw h; more = rw h; next = rw h; lines = rw h w }
 
   pub step-end : {k : ℕ} {m : List ℕ} → recordAt s place ≡ End → Within 0 [] at l m k
       → Stepped s place n st at l m (record { station = st; more = false; next = place; end = k })
-  unfolding outcome goesOn nextPlace
+  unfolding obeyedAt goesOn nextPlace
   step-end h w = step-as End h (within-more 0 longest (omega arith) w)
 
   pub step-unknown : {kind k : ℕ} {m : List ℕ} → recordAt s place ≡ Unknown kind → Within 36 (answerLine n kind 16) at l m k
       → Stepped s place n st at l m (record { station = st; more = false; next = place; end = k })
-  unfolding outcome goesOn nextPlace
+  unfolding obeyedAt goesOn nextPlace
   step-unknown {kind} h w = step-as (Unknown kind) h (within-more 36 longest (omega arith) w)
 
   pub step-cut : {kind k : ℕ} {m : List ℕ} → recordAt s place ≡ Cut kind → Within 36 (answerLine n kind 17) at l m k
       → Stepped s place n st at l m (record { station = st; more = false; next = place; end = k })
-  unfolding outcome goesOn nextPlace
+  unfolding obeyedAt goesOn nextPlace
   step-cut {kind} h w = step-as (Cut kind) h (within-more 36 longest (omega arith) w)
 
   pub step-whole : {kind b next : ℕ} {m : List ℕ} {d : Done} → recordAt s place ≡ Whole kind b next → Did (obeyed s n kind b st) at l m d
       → Stepped s place n st at l m (record { station = d .station; more = true; next = next; end = d .end })
-  unfolding outcome goesOn nextPlace
+  unfolding obeyedAt goesOn nextPlace
   step-whole {kind} {b} {next} h d = rw (d .station) (step-as (Whole kind b next) h (d .lines))
 
 -- ---- a run by whether it goes on
@@ -139,5 +138,5 @@ module _ (s : List ℕ) (r : Run) {at : ℕ} {l m : List ℕ} where
 
   pub go-on : {k : ℕ} {x : Step} → r .more ≡ true → k ≡ (r .n + 1) % 2 ^ 32 → Stepped s (r .at) (r .n) (r .station) at l m x
       → Advanced s r at l m (record { run = record { station = x .station; at = x .next; n = k; more = x .more }; end = x .end })
-  unfolding linesNow advanced stepped outcomeNow
+  unfolding linesNow advanced stepped obeyedNow
   go-on e c p = record { run = rw (e, c, p .station, p .next, p .more); lines = rw e (p .lines) }

@@ -7,8 +7,8 @@ use Rattle.reader_rules.specs.Records.{recordAt, nextPlace}
 use Rattle.station_rules.specs.declared.state.Station.{Station}
 use Rattle.stream_rules.specs.declared.run.Run.{Run}
 use Rattle.stream_rules.specs.declared.run.Progress.{Progress}
-use Rattle.stream_rules.specs.Step.{Outcome}
-use Rattle.stream_rules.specs.Run.{outcome, goesOn, linesNow, advanced, longest}
+use Rattle.stream_rules.specs.Step.{Obeyed}
+use Rattle.stream_rules.specs.Run.{obeyedAt, goesOn, linesNow, advanced, longest}
 use Rattle.stream.specs.declared.obey.Done.{Done}
 use Rattle.stream.specs.declared.step.Step.{Step}
 
@@ -18,16 +18,16 @@ pub record Within (k : ℕ) (t : List ℕ) (at : ℕ) (before after : List ℕ) 
   pub short : r ≤ at + k
 
 -- a call did what the definition says: the station afterwards, and the lines at a place of the buffer, of which there are at most 9,252 bytes
-pub record Did (o : Outcome) (at : ℕ) (before after : List ℕ) (r : Done) : Type 0 where
+pub record Did (o : Obeyed) (at : ℕ) (before after : List ℕ) (r : Done) : Type 0 where
   pub station : r .station ≡ o .station
   pub lines : Within longest (o .lines) at before after (r .end)
 
 -- a step did what the definition says of what stands at the place
 pub record Stepped (s : List ℕ) (place n : ℕ) (st : Station) (at : ℕ) (before after : List ℕ) (r : Step) : Type 0 where
-  pub station : r .station ≡ outcome s n st (recordAt s place) .station
+  pub station : r .station ≡ obeyedAt s n st (recordAt s place) .station
   pub more : r .more ≡ goesOn (recordAt s place)
   pub next : r .next ≡ nextPlace (recordAt s place) place
-  pub lines : Within longest (outcome s n st (recordAt s place) .lines) at before after (r .end)
+  pub lines : Within longest (obeyedAt s n st (recordAt s place) .lines) at before after (r .end)
 
 -- a run went one step on as defined, and the very bytes of the record's lines stand at a place of the buffer, as far as it has room for them
 pub record Advanced (s : List ℕ) (r : Run) (at : ℕ) (before after : List ℕ) (q : Progress) : Type 0 where

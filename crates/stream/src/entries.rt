@@ -1,6 +1,4 @@
 // The lines of a plan's entries.
-ghost use Prim.Native.Nat.{_≤_, min};
-ghost use mathlib.Core.Path.{_≡_};
 ghost use mathlib.Core.List.{_∷_, []};
 ghost use lib.ListN.{take};
 ghost use Rattle.text_rules.specs.Put.{decimal};
@@ -9,6 +7,7 @@ ghost use Rattle.stream.specs.Calls.{Within};
 use crate::words::NEWLINE;
 use crate::words::SPACE;
 use crate::words::put_number;
+use numbers::live;
 use planner::Exchange;
 use planner_rules::Entry;
 
@@ -45,16 +44,6 @@ pub fn put_entry(out: &mut [u8], at: usize, k: u32, e: Entry) -> usize
     )
 }
 
-// How many slots count: the count, or all of them where the count is too large.
-fn live(n: usize) -> usize
-    ensures { λ r. ⌜ (r ≡ min n 128) × (r ≤ 128) ⌝ }
-{
-    if n < 128 {
-        return n;
-    }
-    128
-}
-
 // The first n entries, a line each.
 pub fn put_entries(out: &mut [u8], at: usize, entries: [Entry; 128], n: usize) -> usize
     ensures { λ r. ⌜ Within 9216 (entryLines 0 (take n entries)) at (now (out .entry)) (now (out .exit)) r ⌝ }
@@ -62,7 +51,7 @@ pub fn put_entries(out: &mut [u8], at: usize, entries: [Entry; 128], n: usize) -
     if out.len() <= at {
         return out.len();
     }
-    let m = live(n);
+    let m = live(n, 128);
     let mut next = at;
     let mut i: usize = 0;
     while i < m {

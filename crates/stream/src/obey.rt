@@ -8,7 +8,7 @@ use crate::answers::put_answer;
 use crate::entries::put_entries;
 use crate::replies::obey_reply;
 use crate::report::put_report;
-use station_rules::Answer;
+use station_rules::Outcome;
 use station_rules::Station;
 
 // The station afterwards, and the place behind the lines.
@@ -18,7 +18,7 @@ pub(crate) struct Done {
 }
 
 // Number, kind, answer.
-fn put_answered(n: u32, kind: u8, a: Answer, out: &mut [u8], at: usize) -> Done
+fn put_answered(n: u32, kind: u8, a: Outcome, out: &mut [u8], at: usize) -> Done
     ensures { λ r. ⌜ Did (answered n kind a) at (now (out .entry)) (now (out .exit)) r ⌝ }
 {
     let end = put_answer(out, at, n, kind, a.number);
@@ -129,7 +129,7 @@ pub(crate) fn obey(
         8 => obey_report(s, b, n, st, out, at),
         9 => obey_move(s, b, n, st, out, at),
         _ => {
-            let a = Answer {
+            let a = Outcome {
                 number: 16,
                 station: st,
             };

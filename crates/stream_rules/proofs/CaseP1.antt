@@ -2,6 +2,7 @@
 use Prim.Native.Nat.{ℕ}
 use mathlib.Core.Path.{_≡_, refl}
 use mathlib.Core.List.{List, [], _∷_, _++_}
+use Rattle.lists.specs.Checks.{checked}
 use Rattle.lists.specs.Lists.{every, countOf, indexOf, filter, over, total}
 use Rattle.text_rules.specs.Put.{decimalIn, decimal}
 use Rattle.text_rules.specs.Plain.{plain}
@@ -17,7 +18,7 @@ use Rattle.station_rules.specs.Calls.{setUp, targetRanged, requestRanged, unitF
 use Rattle.station_rules.specs.Planning.{asked, boardFor, nextPlan}
 use Rattle.stream_rules.specs.Lines.{line, answerLine, entryLine, entryLines, valueWord, ageWord, reportLine}
 use Rattle.stream_rules.specs.Step.{obeyed}
-use Rattle.stream_rules.specs.Run.{outcome, goesOn, textFrom, transcript}
+use Rattle.stream_rules.specs.Run.{obeyedAt, goesOn, textFrom, transcript}
 
 -- setup: L 20000, R 3000, limit 5, guarantees 2,1, ceilings 3,2, the rest 0
 abbrev setup : List ℕ
@@ -46,10 +47,10 @@ case third =
     ++ (8 ∷ 0 ∷ 0 ∷ 1 ∷ [])
 
 case-p1 : transcript (case 3) ≡ plain "1 1 0\n2 2 0\n3 2 0\n4 2 0\n5 4 0\n6 4 0\n7 4 0\n8 5 0\n0 0 1 0 2530 3022\n1 0 2 135 1665 1927\n2 1 3 397 1927 2189\n9 8 0\n- - - -\n"
-unfolding every countOf indexOf filter over total decimalIn decimal sentFor replyFor apart clear clearOf fits first place sharesFit setupNumber tried pass alone turns plan selectiveRanged bodyLength numberAt recordAt eightAt beforeSetup emptied setUp targetRanged requestRanged unitFull newTarget requested reported asked boardFor nextPlan line answerLine entryLine entryLines valueWord ageWord reportLine obeyed outcome goesOn nextPlace textFrom transcript
+unfolding checked every countOf indexOf filter over total decimalIn decimal sentFor replyFor apart clear clearOf fits first place sharesFit setupNumber tried pass alone turns plan selectiveRanged bodyLength numberAt recordAt eightAt beforeSetup emptied setUp targetRanged requestRanged unitFull newTarget requested reported asked boardFor nextPlan line answerLine entryLine entryLines valueWord ageWord reportLine obeyed obeyedAt goesOn nextPlace textFrom transcript
 case-p1 = refl
 
 -- with the third request for address 2 its start is 1927
 case-p1-variant : transcript (case 2) ≡ plain "1 1 0\n2 2 0\n3 2 0\n4 2 0\n5 4 0\n6 4 0\n7 4 0\n8 5 0\n0 0 1 0 2530 3022\n1 0 2 135 1665 1927\n2 1 2 1927 3457 3719\n9 8 0\n- - - -\n"
-unfolding every countOf indexOf filter over total decimalIn decimal sentFor replyFor apart clear clearOf fits first place sharesFit setupNumber tried pass alone turns plan selectiveRanged bodyLength numberAt recordAt eightAt beforeSetup emptied setUp targetRanged requestRanged unitFull newTarget requested reported asked boardFor nextPlan line answerLine entryLine entryLines valueWord ageWord reportLine obeyed outcome goesOn nextPlace textFrom transcript
+unfolding checked every countOf indexOf filter over total decimalIn decimal sentFor replyFor apart clear clearOf fits first place sharesFit setupNumber tried pass alone turns plan selectiveRanged bodyLength numberAt recordAt eightAt beforeSetup emptied setUp targetRanged requestRanged unitFull newTarget requested reported asked boardFor nextPlan line answerLine entryLine entryLines valueWord ageWord reportLine obeyed obeyedAt goesOn nextPlace textFrom transcript
 case-p1-variant = refl

@@ -4,6 +4,7 @@ use Prim.Native.Nat.{ℕ}
 use mathlib.Core.Path.{_≡_, refl}
 use mathlib.Core.List.{List, [], _∷_, _++_, map}
 use lib.ListN.{replicate}
+use Rattle.lists.specs.Checks.{checked}
 use Rattle.lists.specs.Lists.{every, countOf, indexOf, filter, over, total}
 use Rattle.text_rules.specs.Put.{decimalIn, decimal}
 use Rattle.text_rules.specs.Signed.{signedDecimal}
@@ -12,7 +13,7 @@ use Rattle.text_rules.specs.Line.{blank, newline, grown, parts, full, linesOf, 
 use Rattle.text_rules.specs.Number.{valueAfter}
 use Rattle.parity_rules.specs.Messages.{bits, xorBits}
 use Rattle.parity_rules.specs.Division.{shiftIn, divide, remainderOf, syndrome}
-use Rattle.parity_rules.specs.Correction.{sizeOf, subsets, xorOf, matching, flipped, correction}
+use Rattle.parity_rules.specs.Correction.{sizeOf, subsets, xorOf, matching, flipped}
 use Rattle.planner_rules.specs.declared.request.Request.{Request}
 use Rattle.planner_rules.specs.Exchange.{sentFor, replyFor, apart, clear}
 use Rattle.planner_rules.specs.Fits.{clearOf, fits, first, place}
@@ -27,12 +28,12 @@ use Rattle.reader_rules.specs.Fields.{eightAt}
 use Rattle.station_rules.specs.State as state
 use Rattle.station_rules.specs.Calls.{setUp, targetRanged, requestRanged, unitFull, newTarget, without, removed, moved, requested, reported}
 use Rattle.station_rules.specs.Planning.{asked, boardFor, nextPlan}
-use Rattle.station_rules.specs.Replies.{expected, valueIn, startOf, inWindow, ofFormat, targetsHeard, afterReply, settled, corrected, replied}
+use Rattle.station_rules.specs.Replies.{expected, valueIn, startOf, inWindow, targetsHeard, afterReply, received, settled, replied}
 use Rattle.station_rules.specs.History.{Call, setup, new, remove, move, request, plan, reply, report}
 use Rattle.station_rules.specs.Seen.{AC, ID, never, said, inForce, lastSaid}
 use Rattle.stream_rules.specs.Lines.{line, answerLine, replyLine, entryLine, entryLines, valueWord, ageWord, reportLine}
 use Rattle.stream_rules.specs.Step.{obeyed}
-use Rattle.stream_rules.specs.Run.{outcome, goesOn, textFrom, transcript}
+use Rattle.stream_rules.specs.Run.{obeyedAt, goesOn, textFrom, transcript}
 use Rattle.stream_rules.specs.Spelled.{callOf, called, placeOf, callsOf}
 use Rattle.stream_rules.specs.Reader.{Shown, numbersOn, answerOn, shownIn, sixes, readOne, readTo, askedKnown, knownBy, lineOf, eventsBy}
 
@@ -86,7 +87,7 @@ prints =
     ++ plain "15 8 0\n- - 4321 1\n16 9 4\n"
 
 runs : transcript every-kind ≡ prints
-unfolding every countOf indexOf filter over total decimalIn decimal signedDecimal bits xorBits shiftIn divide remainderOf syndrome sizeOf subsets xorOf matching flipped correction sentFor replyFor apart clear clearOf fits first place sharesFit setupNumber plans.tried plans.pass plans.alone plans.turns plans.plan headOf drawn selectiveRanged bodyLength messageLength numberAt recordAt eightAt state.beforeSetup state.emptied setUp targetRanged requestRanged unitFull newTarget without removed moved requested reported asked boardFor nextPlan expected valueIn startOf inWindow ofFormat targetsHeard afterReply settled corrected replied line answerLine replyLine entryLine entryLines valueWord ageWord reportLine obeyed outcome goesOn nextPlace textFrom transcript
+unfolding checked every countOf indexOf filter over total decimalIn decimal signedDecimal bits xorBits shiftIn divide remainderOf syndrome sizeOf subsets xorOf matching flipped sentFor replyFor apart clear clearOf fits first place sharesFit setupNumber plans.tried plans.pass plans.alone plans.turns plans.plan headOf drawn selectiveRanged bodyLength messageLength numberAt recordAt eightAt state.beforeSetup state.emptied setUp targetRanged requestRanged unitFull newTarget without removed moved requested reported asked boardFor nextPlan expected valueIn startOf inWindow targetsHeard afterReply settled replied line answerLine replyLine entryLine entryLines valueWord ageWord reportLine obeyed obeyedAt goesOn nextPlace textFrom transcript
 runs = refl
 
 -- the calls that it spells, the newest first
@@ -97,11 +98,11 @@ spells :
     ∷ plan 0
     ∷ report 1
     ∷ remove 1
-    ∷ reply 0 2486 (32 ∷ 0 ∷ 4 ∷ 210 ∷ 188 ∷ 41 ∷ 61 ∷ []) (replicate 7 0) (replicate 7 0)
+    ∷ reply (received 0 2486 (32 ∷ 0 ∷ 4 ∷ 210 ∷ 188 ∷ 41 ∷ 61 ∷ []) (replicate 7 0) (replicate 7 0))
     ∷ move 1 1000 1004
     ∷ report 1
-    ∷ reply 1 559 (168 ∷ 0 ∷ 16 ∷ 225 ∷ 1 ∷ 2 ∷ 3 ∷ 4 ∷ 5 ∷ 6 ∷ 7 ∷ 123 ∷ 219 ∷ 49 ∷ []) (replicate 14 0) (replicate 14 0)
-    ∷ reply 0 2486 (32 ∷ 0 ∷ 4 ∷ 211 ∷ 188 ∷ 41 ∷ 189 ∷ []) (0 ∷ 0 ∷ 0 ∷ 1 ∷ 64 ∷ 0 ∷ 128 ∷ []) (replicate 7 0)
+    ∷ reply (received 1 559 (168 ∷ 0 ∷ 16 ∷ 225 ∷ 1 ∷ 2 ∷ 3 ∷ 4 ∷ 5 ∷ 6 ∷ 7 ∷ 123 ∷ 219 ∷ 49 ∷ []) (replicate 14 0) (replicate 14 0))
+    ∷ reply (received 0 2486 (32 ∷ 0 ∷ 4 ∷ 211 ∷ 188 ∷ 41 ∷ 189 ∷ []) (0 ∷ 0 ∷ 0 ∷ 1 ∷ 64 ∷ 0 ∷ 128 ∷ []) (replicate 7 0))
     ∷ plan 4294967246
     ∷ request (asks 0 2 21 16)
     ∷ request (asks 0 1 4 0)
@@ -109,7 +110,7 @@ spells :
     ∷ new 1 2000 2010
     ∷ setup (record { period = 20000; reach = 3000; limit = 5; guarantee = 2 ∷ 1 ∷ replicate 6 0; ceiling = 3 ∷ 2 ∷ replicate 6 0 })
     ∷ []
-unfolding bodyLength numberAt recordAt eightAt nextPlace callOf called placeOf callsOf
+unfolding checked bodyLength numberAt recordAt eightAt nextPlace callOf called placeOf callsOf
 spells = refl
 
 -- ---- what a reader finds
@@ -129,7 +130,7 @@ reads-answers = refl
 reads-off :
     map (λ (x : Shown). x .number) (readTo every-kind prints 16 .shown)
     ≡ 4 ∷ 0 ∷ 0 ∷ 4 ∷ 0 ∷ 8 ∷ 0 ∷ 0 ∷ 0 ∷ 0 ∷ 0 ∷ 0 ∷ 0 ∷ 0 ∷ 0 ∷ 0 ∷ []
-unfolding blank newline grown parts full linesOf wordsOf valueAfter bodyLength recordAt nextPlace placeOf callOf sixes readOne readTo
+unfolding blank newline grown parts full linesOf wordsOf valueAfter checked bodyLength recordAt nextPlace placeOf callOf sixes readOne readTo
 reads-off = refl
 
 -- from calls and printed numbers written down by hand
@@ -146,8 +147,8 @@ before-the-plan =
 
 abbrev to-the-long-reply : List Shown
 to-the-long-reply =
-    done (reply 1 559 (168 ∷ 0 ∷ 16 ∷ 225 ∷ 1 ∷ 2 ∷ 3 ∷ 4 ∷ 5 ∷ 6 ∷ 7 ∷ 123 ∷ 219 ∷ 49 ∷ []) (replicate 14 0) (replicate 14 0))
-    (done (reply 0 2486 (32 ∷ 0 ∷ 4 ∷ 211 ∷ 188 ∷ 41 ∷ 189 ∷ []) (0 ∷ 0 ∷ 0 ∷ 1 ∷ 64 ∷ 0 ∷ 128 ∷ []) (replicate 7 0))
+    done (reply (received 1 559 (168 ∷ 0 ∷ 16 ∷ 225 ∷ 1 ∷ 2 ∷ 3 ∷ 4 ∷ 5 ∷ 6 ∷ 7 ∷ 123 ∷ 219 ∷ 49 ∷ []) (replicate 14 0) (replicate 14 0)))
+    (done (reply (received 0 2486 (32 ∷ 0 ∷ 4 ∷ 211 ∷ 188 ∷ 41 ∷ 189 ∷ []) (0 ∷ 0 ∷ 0 ∷ 1 ∷ 64 ∷ 0 ∷ 128 ∷ []) (replicate 7 0)))
     (record { call = plan 4294967246; number = 0; entries = shows 0 1 0 ∷ shows 0 2 79 ∷ [] } ∷ before-the-plan))
 
 abbrev to-the-end : List Shown
@@ -155,7 +156,7 @@ to-the-end =
     done (plan 0)
     (record { call = report 1; number = 4; entries = [] }
     ∷ done (remove 1)
-    (record { call = reply 0 2486 (32 ∷ 0 ∷ 4 ∷ 210 ∷ 188 ∷ 41 ∷ 61 ∷ []) (replicate 7 0) (replicate 7 0); number = 8; entries = [] }
+    (record { call = reply (received 0 2486 (32 ∷ 0 ∷ 4 ∷ 210 ∷ 188 ∷ 41 ∷ 61 ∷ []) (replicate 7 0) (replicate 7 0)); number = 8; entries = [] }
     ∷ done (move 1 1000 1004) (done (report 1) to-the-long-reply)))
 
 -- AC and ID of 1, then of 2, and AC of 1 after its removal

@@ -2,7 +2,7 @@
 use Prim.Native.Nat.{ℕ, zero, suc, _+_}
 use mathlib.Core.Path.{_≡_, refl, ap, ap₂, subst, sym, _∙_}
 use mathlib.Core.Bool.{Bool, true, false}
-use mathlib.Core.List.{List, [], _∷_, _++_, append-nil}
+use mathlib.Core.List.{List, [], _∷_, _++_, map, append-nil}
 use lib.Dec.{eqb}
 use lib.IntN.{ℤ, subℕ}
 use lib.ListN.{getD}
@@ -20,7 +20,7 @@ use Rattle.planner_rules.specs.declared.request.Ask.{Ask}
 use Rattle.planner_rules.specs.declared.setup.Setup.{Setup}
 use Rattle.planner_rules.specs.Plan.{Board}
 use Rattle.planner_rules.specs.Demand3.{Demand3}
-use Rattle.planner_rules.specs.Told.{EntryShown}
+use Rattle.planner_rules.specs.Told.{EntryShown, entryShown}
 use Rattle.reader_rules.specs.declared.reading.Found.{Found}
 use Rattle.reader_rules.specs.declared.reading.Found.the-variants.{End, Unknown, Cut, Whole}
 use Rattle.reader_rules.specs.Records.{recordAt}
@@ -28,22 +28,22 @@ use Rattle.station_rules.specs.declared.state.Station.{Station}
 use Rattle.station_rules.specs.State.{entriesOf, noAsk}
 use Rattle.station_rules.specs.Calls.{reported}
 use Rattle.station_rules.specs.Planning.{boardFor, nextPlan}
-use Rattle.station_rules.specs.Replies.{Replied, expected, startOf, entryNumbered, delayOf, replied}
-use Rattle.station_rules.specs.Numbers.{requestNumbered}
-use Rattle.station_rules.specs.History.{Call, setup, new, remove, move, request, plan, reply, report, after}
-use Rattle.station_rules.specs.Seen.{AC, ID, Event, events, inForce}
+use Rattle.station_rules.specs.Replies.{expected, startOf, delayOf, Received, entryFor, requestFor, startFor, Replied, replied}
+use Rattle.station_rules.specs.History.{Call, plan, reply, report, after}
+use Rattle.station_rules.specs.Seen.{AC, ID, Effect, events, inForce}
 use Rattle.station_rules.proofs.Keeping.{plan-shows, always-kept}
-use Rattle.station_rules.proofs.Replies.{taken}
+use Rattle.station_rules.proofs.Came.{taken}
 use Rattle.station_rules.proofs.Demands.{demand1, ages, replies, plans, left-back}
 use Rattle.stream_rules.specs.Lines.{answerLine, replyLine, entryLines, reportLine}
-use Rattle.stream_rules.specs.Step.{Outcome, repliedTo}
-use Rattle.stream_rules.specs.Run.{outcome, begun, runAfter}
-use Rattle.stream_rules.specs.Spelled.{numberGiven, callOf, called, placeOf, foundAfter, callsOf, Spells, recordLines}
-use Rattle.stream_rules.specs.Reader.{Shown, numbersOn, answerOn, shownIn, seen, shownTo, knownBy, boardBy, lineOf, eventsBy}
-use Rattle.stream_rules.specs.Printed.{lastSaidLine, NumberPrinted, boardOn, PlanPrinted, ReplyPrinted, ReplyTold, Told, Printed}
-use Rattle.stream_rules.proofs.Spelled.{linesFor, whole-done, MessageBytes, message-bytes, run-at}
+use Rattle.stream_rules.specs.Step.{Obeyed, repliedTo}
+use Rattle.stream_rules.specs.Run.{obeyedAt, begun, runAfter}
+use Rattle.stream_rules.specs.Spelled.{numberGiven, callOf, Prints, plain, ofPlan, ofReply, ofReport, printsOf, called, placeOf, foundAfter, callsOf}
+use Rattle.stream_rules.specs.Spelled.{Spells, recordLines}
+use Rattle.stream_rules.specs.Reader.{Shown, numbersOn, answerOn, entriesBy, shownIn, seen, shownTo, knownBy, boardBy, lineOf, eventsBy}
+use Rattle.stream_rules.specs.Printed.{lastSaidLine, NumberPrinted, boardOn, PlanPrinted, ReplyPrinted, ReplyTold, ToldBy, Told, Printed}
+use Rattle.stream_rules.proofs.Spelled.{linesBy, linesFor, whole-done, BytesBy, MessageBytes, message-bytes, run-at}
 use Rattle.stream_rules.proofs.ReadBack.{answer-read, plan-lines-read}
-use Rattle.stream_rules.proofs.Reader.{shownFor, shownOf, Knows, known-is, asked-read, board-read, line-of-entry, entry-asks, events-read}
+use Rattle.stream_rules.proofs.Reader.{madeBy, shownFor, shownOf, Knows, known-is, asked-read, board-read, line-of-entry, entry-asks, events-read}
 
 -- ---- the number on a record's line
 alone : (n kind number : ℕ) → NumberPrinted n kind number (answerLine n kind number)
@@ -70,53 +70,45 @@ reply-number n kind r true e = rw (eqb-true (r .number) 0 e) (with-flips n kind 
 reply-number n kind r false e = alone n kind (r .number)
 
 -- it is the one that the table gives the call
-call-number : (n kind : ℕ) (cs : List Call) (c : Call) → NumberPrinted n kind (numberGiven cs c) (linesFor n kind (after cs) c)
+number-by : (n kind : ℕ) (cs : List Call) {c : Call} (p : Prints c) → NumberPrinted n kind (numberGiven cs c) (linesBy p n kind (after cs))
 unfolding checked
-call-number n kind cs (setup h) = rw (demand1 cs .numbers (setup h)) (alone n kind (numberGiven cs (setup h)))
-call-number n kind cs (new a near far) = rw (demand1 cs .numbers (new a near far)) (alone n kind (numberGiven cs (new a near far)))
-call-number n kind cs (remove a) = rw (demand1 cs .numbers (remove a)) (alone n kind (numberGiven cs (remove a)))
-call-number n kind cs (move a near far) = rw (demand1 cs .numbers (move a near far)) (alone n kind (numberGiven cs (move a near far)))
-call-number n kind cs (request q) = rw (demand1 cs .numbers (request q)) (alone n kind (numberGiven cs (request q)))
-call-number n kind cs (plan tag) = with-below n kind 0 (entryLines 0 (entriesOf (nextPlan (after cs) tag .plan)))
-call-number n kind cs (reply k tag msg marks out) =
-    let r = replied (after cs) k tag msg marks out in
-    subst (λ (x : ℕ). NumberPrinted n kind x (repliedTo n kind r .lines)) (demand1 cs .numbers (reply k tag msg marks out))
-    (reply-number n kind r (eqb (r .number) 0) refl)
-call-number n kind cs (report a) =
+number-by n kind cs {c} plain = rw (demand1 cs .numbers c) (alone n kind (numberGiven cs c))
+number-by n kind cs (ofPlan tag) = with-below n kind 0 (entryLines 0 (entriesOf (nextPlan (after cs) tag .plan)))
+number-by n kind cs (ofReply r) =
+    let a = replied (after cs) r in
+    subst (λ (x : ℕ). NumberPrinted n kind x (repliedTo n kind a .lines)) (demand1 cs .numbers (reply r)) (reply-number n kind a (eqb (a .number) 0) refl)
+number-by n kind cs (ofReport a) =
     let r = reported (after cs) a in
     subst (λ (x : ℕ). NumberPrinted n kind x (linesFor n kind (after cs) (report a))) (demand1 cs .numbers (report a))
     (with-below n kind (r .number) (pick (eqb (r .number) 0) (reportLine (r .ac) (r .id)) []))
 
--- ---- what the lines of a call show
-abbrev showing : Call → ℕ → List EntryShown → Shown
-showing c n l = record { call = c; number = n; entries = l }
+call-number : (n kind : ℕ) (cs : List Call) (c : Call) → NumberPrinted n kind (numberGiven cs c) (linesFor n kind (after cs) c)
+call-number n kind cs c = number-by n kind cs (printsOf c)
 
-as-shown : (c : Call) (n m : ℕ) (l v : List EntryShown) → n ≡ m → l ≡ v → showing c n l ≡ showing c m v
-as-shown c n m l v e f = ap₂ (showing c) e f
+-- ---- what the lines of a call show
+entries-read : (n kind : ℕ) (cs : List Call) {c : Call} (p : Prints c)
+    → entriesBy p (numbersOn (linesBy p n kind (after cs))) ≡ map entryShown (madeBy p (after cs))
+entries-read n kind cs plain = refl
+entries-read n kind cs (ofPlan tag) = plan-lines-read n kind 0 tag (entriesOf (nextPlan (after cs) tag .plan))
+entries-read n kind cs (ofReply r) = refl
+entries-read n kind cs (ofReport a) = refl
 
 call-shown : (n kind : ℕ) (cs : List Call) (c : Call) → shownIn c (linesFor n kind (after cs) c) ≡ shownFor cs c
-call-shown n kind cs (setup h) = as-shown (setup h) _ _ [] [] (call-number n kind cs (setup h) .read-as) refl
-call-shown n kind cs (new a near far) = as-shown (new a near far) _ _ [] [] (call-number n kind cs (new a near far) .read-as) refl
-call-shown n kind cs (remove a) = as-shown (remove a) _ _ [] [] (call-number n kind cs (remove a) .read-as) refl
-call-shown n kind cs (move a near far) = as-shown (move a near far) _ _ [] [] (call-number n kind cs (move a near far) .read-as) refl
-call-shown n kind cs (request q) = as-shown (request q) _ _ [] [] (call-number n kind cs (request q) .read-as) refl
-call-shown n kind cs (plan tag) =
-    as-shown (plan tag) _ _ _ _ (call-number n kind cs (plan tag) .read-as) (plan-lines-read n kind 0 tag (entriesOf (nextPlan (after cs) tag .plan)))
-call-shown n kind cs (reply k tag msg marks out) =
-    as-shown (reply k tag msg marks out) _ _ [] [] (call-number n kind cs (reply k tag msg marks out) .read-as) refl
-call-shown n kind cs (report a) = as-shown (report a) _ _ [] [] (call-number n kind cs (report a) .read-as) refl
+call-shown n kind cs c =
+    ap₂ (λ (x : ℕ) (l : List EntryShown). record { call = c; number = x; entries = l })
+    (call-number n kind cs c .read-as) (entries-read n kind cs (printsOf c))
 
 -- what the first k records show is what their calls show
 found-shown : (s : List ℕ) (at n : ℕ) (cs : List Call) (v : List Shown) (f : Found) → recordAt s at ≡ f → v ≡ shownOf cs
-    → seen s f (outcome s n (after cs) f .lines) v ≡ shownOf (called s f cs)
-unfolding seen called outcome shownOf
+    → seen s f (obeyedAt s n (after cs) f .lines) v ≡ shownOf (called s f cs)
+unfolding seen called obeyedAt shownOf
 found-shown s at n cs v End h e = e
 found-shown s at n cs v (Unknown b) h e = e
 found-shown s at n cs v (Cut kind) h e = e
 found-shown s at n cs v (Whole kind body next) h e =
     let c = callOf s kind body in
     let o = whole-done s at n (after cs) h in
-    ap₂ (λ (x : Shown) (l : List Shown). x ∷ l) (ap (λ (y : Outcome). shownIn c (y .lines)) o ∙ call-shown n kind cs c) e
+    ap₂ (λ (x : Shown) (l : List Shown). x ∷ l) (ap (λ (y : Obeyed). shownIn c (y .lines)) o ∙ call-shown n kind cs c) e
 
 pub shown-is : (s : List ℕ) (k : ℕ) → shownTo s k ≡ shownOf (callsOf s k)
 unfolding shownTo callsOf recordLines shownOf
@@ -153,40 +145,41 @@ refused-line n kind r true e z = absurd (z (eqb-true (r .number) 0 e))
 refused-line n kind r false e z = rw e
 
 -- s − t − 531, as a reader reckons it
-delay-read : (cs : List Call) (e tag : ℕ)
-    → delayOf (entryNumbered e (after cs)) (startOf tag (after cs .plan .tag))
-    ≡ subℕ (startOf tag (knownBy (shownOf cs) .tag)) (lineOf e (shownOf cs) .start + 531)
-delay-read cs e tag =
-    ap₂ (λ (p : ℕ) (x : EntryShown). subℕ (startOf tag p) (x .start + 531)) (known-is cs .tag-is) (sym (line-of-entry cs e))
+delay-read : (cs : List Call) (r : Received)
+    → delayOf (entryFor (after cs) r) (startFor (after cs) r)
+    ≡ subℕ (startOf (r .tag) (knownBy (shownOf cs) .tag)) (lineOf (r .entry) (shownOf cs) .start + 531)
+delay-read cs r =
+    ap₂ (λ (p : ℕ) (x : EntryShown). subℕ (startOf (r .tag) p) (x .start + 531)) (known-is cs .tag-is) (sym (line-of-entry cs (r .entry)))
 
-reply-told : (n kind : ℕ) (cs : List Call) (e tag : ℕ) (msg marks out : List ℕ) → AreBytes msg
-    → ReplyTold n kind cs (shownOf cs) e tag msg marks out (linesFor n kind (after cs) (reply e tag msg marks out))
-reply-told n kind cs e tag msg marks out bytes =
-    let r = replied (after cs) e tag msg marks out in
-    let same : r .number ≡ numberGiven cs (reply e tag msg marks out) = demand1 cs .numbers (reply e tag msg marks out) in
-    let address : lineOf e (shownOf cs) .address ≡ requestNumbered e (after cs) .address = ap (λ (x : EntryShown). x .address) (line-of-entry cs e) in
+reply-told : (n kind : ℕ) (cs : List Call) (r : Received) → AreBytes (r .message)
+    → ReplyTold n kind cs (shownOf cs) r (linesFor n kind (after cs) (reply r))
+reply-told n kind cs r bytes =
+    let a = replied (after cs) r in
+    let e = r .entry in
+    let same : a .number ≡ numberGiven cs (reply r) = demand1 cs .numbers (reply r) in
+    let address : lineOf e (shownOf cs) .address ≡ requestFor (after cs) r .address = ap (λ (x : EntryShown). x .address) (line-of-entry cs e) in
     let asks =
-    ap (λ (l : List Event). expected (getD (inForce l) e noAsk .request)) (events-read cs) ∙ ap (λ (x : Ask). expected (x .request)) (entry-asks cs e) in
+    ap (λ (l : List Effect). expected (getD (inForce l) e noAsk .request)) (events-read cs) ∙ ap (λ (x : Ask). expected (x .request)) (entry-asks cs e) in
     record {
       taken = λ z.
-          let y : r .number ≡ 0 = same ∙ z in
-          let t = replies cs e tag msg marks out bytes y in
-          let f : r .flips ≡ sizeOf (differing msg (r .output)) = t .corrected .flips in
+          let y : a .number ≡ 0 = same ∙ z in
+          let t = replies cs r bytes y in
+          let f : a .flips ≡ sizeOf (differing (r .message) (a .output)) = t .corrected .flips in
           record {
-            output = r .output;
+            output = a .output;
             text-is =
-                taken-line n kind r y
-                ∙ ap₂ (λ (x : ℕ) (d : ℤ). replyLine n kind x d) f (taken (after cs) e tag msg marks out y .delay-is ∙ delay-read cs e tag);
+                taken-line n kind a y
+                ∙ ap₂ (λ (x : ℕ) (d : ℤ). replyLine n kind x d) f (ap (λ (x : Replied). x .delay) (taken (after cs) r y .is) ∙ delay-read cs r);
             corrected = rw (address, ← f) (t .corrected);
             format = t .format ∙ sym asks;
           };
-      refused = λ z. refused-line n kind r (eqb (r .number) 0) refl (λ y. z (sym same ∙ y)) ∙ ap (answerLine n kind) same;
+      refused = λ z. refused-line n kind a (eqb (a .number) 0) refl (λ y. z (sym same ∙ y)) ∙ ap (answerLine n kind) same;
     }
 
 -- ---- a report's lines
 said-line : (cs : List Call) (a : ℕ) → reported (after cs) a .number ≡ 0
     → reportLine (reported (after cs) a .ac) (reported (after cs) a .id) ≡ lastSaidLine (eventsBy (shownOf cs)) a
-said-line cs a z = ap₂ reportLine (ages cs .told AC a z) (ages cs .told ID a z) ∙ ap (λ (es : List Event). lastSaidLine es a) (sym (events-read cs))
+said-line cs a z = ap₂ reportLine (ages cs .told AC a z) (ages cs .told ID a z) ∙ ap (λ (es : List Effect). lastSaidLine es a) (sym (events-read cs))
 
 below-by : (cs : List Call) (a : ℕ) (b : Bool) → eqb (reported (after cs) a .number) 0 ≡ b
     → pick b (reportLine (reported (after cs) a .ac) (reported (after cs) a .id)) [] ≡ pick b (lastSaidLine (eventsBy (shownOf cs)) a) []
@@ -201,23 +194,22 @@ report-told n kind cs a =
     (below-by cs a (eqb (r .number) 0) refl ∙ ap (λ (x : ℕ). pick (eqb x 0) (lastSaidLine (eventsBy (shownOf cs)) a) []) same)
 
 -- ---- every call, and what stands at a place
+told-by : (n kind : ℕ) (cs : List Call) {c : Call} (p : Prints c) → BytesBy p → ToldBy p n kind cs (shownOf cs) (linesBy p n kind (after cs))
+told-by n kind cs {c} plain b = ap (answerLine n kind) (demand1 cs .numbers c)
+told-by n kind cs (ofPlan tag) b = plan-told n kind cs tag
+told-by n kind cs (ofReply r) b = reply-told n kind cs r b
+told-by n kind cs (ofReport a) b = report-told n kind cs a
+
 call-told : (n kind : ℕ) (cs : List Call) (c : Call) → MessageBytes c → Told n kind cs (shownOf cs) c (linesFor n kind (after cs) c)
-call-told n kind cs (setup h) b = ap (answerLine n kind) (demand1 cs .numbers (setup h))
-call-told n kind cs (new a near far) b = ap (answerLine n kind) (demand1 cs .numbers (new a near far))
-call-told n kind cs (remove a) b = ap (answerLine n kind) (demand1 cs .numbers (remove a))
-call-told n kind cs (move a near far) b = ap (answerLine n kind) (demand1 cs .numbers (move a near far))
-call-told n kind cs (request q) b = ap (answerLine n kind) (demand1 cs .numbers (request q))
-call-told n kind cs (plan tag) b = plan-told n kind cs tag
-call-told n kind cs (reply e tag msg marks out) b = reply-told n kind cs e tag msg marks out b
-call-told n kind cs (report a) b = report-told n kind cs a
+call-told n kind cs c b = told-by n kind cs (printsOf c) b
 
 -- the lines of a record that spells a call are those of the call
 whole-lines : (s : List ℕ) (k : ℕ) {kind : ℕ} {c : Call} → Spells s k kind c → recordLines s k ≡ linesFor (suc k) kind (after (callsOf s k)) c
-unfolding recordLines outcome
+unfolding recordLines obeyedAt
 whole-lines s k {kind} h =
     let st = after (callsOf s k) in
-    ap (λ (f : Found). outcome s (suc k) st f .lines) (h .whole)
-    ∙ ap (λ (o : Outcome). o .lines) (whole-done s (placeOf s k) (suc k) st (h .whole))
+    ap (λ (f : Found). obeyedAt s (suc k) st f .lines) (h .whole)
+    ∙ ap (λ (o : Obeyed). o .lines) (whole-done s (placeOf s k) (suc k) st (h .whole))
     ∙ ap (linesFor (suc k) kind st) (h .call-is)
 
 whole-told : (s : List ℕ) (k : ℕ) {kind : ℕ} {c : Call} → Spells s k kind c → MessageBytes c → Told (suc k) kind (callsOf s k) (shownTo s k) c (recordLines s k)
@@ -227,10 +219,10 @@ whole-told s k {kind} {c} h b =
     (subst (Told (suc k) kind cs (shownOf cs) c) (sym (whole-lines s k h)) (call-told (suc k) kind cs c b))
 
 found-told : (s : List ℕ) (k : ℕ) (f : Found) → AreBytes s → foundAfter s k ≡ f → Printed s (suc k) (callsOf s k) (shownTo s k) f (recordLines s k)
-unfolding recordLines outcome
-found-told s k End bytes h = ap (λ (f : Found). outcome s (suc k) (after (callsOf s k)) f .lines) h
-found-told s k (Unknown b) bytes h = ap (λ (f : Found). outcome s (suc k) (after (callsOf s k)) f .lines) h
-found-told s k (Cut kind) bytes h = ap (λ (f : Found). outcome s (suc k) (after (callsOf s k)) f .lines) h
+unfolding recordLines obeyedAt
+found-told s k End bytes h = ap (λ (f : Found). obeyedAt s (suc k) (after (callsOf s k)) f .lines) h
+found-told s k (Unknown b) bytes h = ap (λ (f : Found). obeyedAt s (suc k) (after (callsOf s k)) f .lines) h
+found-told s k (Cut kind) bytes h = ap (λ (f : Found). obeyedAt s (suc k) (after (callsOf s k)) f .lines) h
 found-told s k (Whole kind body next) bytes h =
     whole-told s k (record { body = body; next = next; whole = h; call-is = refl }) (message-bytes s (placeOf s k) bytes h)
 
@@ -254,8 +246,8 @@ pub plan-printed : (s : List ℕ) (k : ℕ) {kind tag : ℕ} → Spells s k kind
 plan-printed s k h = whole-told s k h tt
 
 -- (d) a taken reply, of bytes, prints how many places of the message differ from the one corrected message, and s − t − 531
-pub reply-printed : (s : List ℕ) (k : ℕ) {kind e tag : ℕ} {msg marks out : List ℕ} → Spells s k kind (reply e tag msg marks out) → AreBytes msg
-    → numberGiven (callsOf s k) (reply e tag msg marks out) ≡ 0 → ReplyPrinted (suc k) kind (shownTo s k) e tag msg marks (recordLines s k)
+pub reply-printed : (s : List ℕ) (k : ℕ) {kind : ℕ} {r : Received} → Spells s k kind (reply r) → AreBytes (r .message)
+    → numberGiven (callsOf s k) (reply r) ≡ 0 → ReplyPrinted (suc k) kind (shownTo s k) r (recordLines s k)
 reply-printed s k h bytes z = whole-told s k h bytes .taken z
 
 -- ---- what a reader knows after k records is what the station of the run holds

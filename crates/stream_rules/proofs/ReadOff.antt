@@ -27,13 +27,15 @@ use Rattle.station_rules.specs.State.{entriesOf}
 use Rattle.station_rules.specs.Calls.{reported}
 use Rattle.station_rules.specs.Planning.{nextPlan}
 use Rattle.station_rules.specs.Replies.{Replied, replied}
-use Rattle.station_rules.specs.History.{Call, setup, new, remove, move, request, plan, reply, report, answer, after}
+use Rattle.station_rules.specs.History.{Call, answer, after}
 use Rattle.stream_rules.specs.Lines.{line, answerLine, replyLine, entryLine, entryLines, valueWord, ageWord, reportLine}
-use Rattle.stream_rules.specs.Step.{Outcome}
-use Rattle.stream_rules.specs.Run.{outcome, goesOn, textFrom, transcript}
-use Rattle.stream_rules.specs.Spelled.{streamOf, callOf, placeOf, foundAfter, callsOf, recordLines, reached}
-use Rattle.stream_rules.specs.Reader.{Shown, numbersOn, answerOn, shownOn, shownIn, seen, shownTo, sixes, countOn, Reading, readWhole, readOne, readTo}
-use Rattle.stream_rules.proofs.Spelled.{linesFor, whole-done}
+use Rattle.stream_rules.specs.Step.{Obeyed}
+use Rattle.stream_rules.specs.Run.{obeyedAt, goesOn, textFrom, transcript}
+use Rattle.stream_rules.specs.Spelled.{streamOf, callOf, Prints, plain, ofPlan, ofReply, ofReport, printsOf, placeOf, foundAfter, callsOf, recordLines}
+use Rattle.stream_rules.specs.Spelled.{reached}
+use Rattle.stream_rules.specs.Reader.{Shown, numbersOn, answerOn, shownOn, shownIn, seen, shownTo, sixes, countBy, countOn, Reading, readWhole, readOne}
+use Rattle.stream_rules.specs.Reader.{readTo}
+use Rattle.stream_rules.proofs.Spelled.{linesBy, linesFor, whole-done}
 use Rattle.stream_rules.proofs.ReadBack.{line-read}
 use Rattle.stream_rules.proofs.Stands.{whole-reached, within, onward, one-more}
 
@@ -59,10 +61,10 @@ values ws = map (valueAfter 0) ws
 
 -- ---- the lines of each call
 -- its lines, how many they are beside lines that are none of a plan's entries, and that the first is none
-pub record CallLines (c : Call) (text : List ℕ) : Type 0 where
+pub record CallLines {c : Call} (p : Prints c) (text : List ℕ) : Type 0 where
   pub lines : List (List ℕ)
   pub lined : Lined text lines
-  pub count : (t : List (List ℕ)) → sixes t ≡ 0 → countOn c (lines ++ t) ≡ length lines
+  pub count : (t : List (List ℕ)) → sixes t ≡ 0 → countBy p (lines ++ t) ≡ length lines
   pub first : (t : List (List ℕ)) → sixes (lines ++ t) ≡ 0
 
 abbrev answerWords : ℕ → ℕ → ℕ → List (List ℕ)
@@ -73,9 +75,9 @@ unfolding answerLine All
 answer-lined n kind number = line-read (answerWords n kind number) (decimal-word n, (decimal-word kind, (decimal-word number, tt)))
 
 -- a line alone
-answer-lines : (c : Call) → ((ls : List (List ℕ)) → countOn c ls ≡ 1) → (n kind number : ℕ) → CallLines c (answerLine n kind number)
+answer-lines : {c : Call} (p : Prints c) → ((ls : List (List ℕ)) → countBy p ls ≡ 1) → (n kind number : ℕ) → CallLines p (answerLine n kind number)
 unfolding sixes
-answer-lines c one n kind number =
+answer-lines p one n kind number =
     record { lines = values (answerWords n kind number) ∷ []; lined = answer-lined n kind number; count = λ t z. one _; first = λ t. refl }
 
 abbrev replyWords : ℕ → ℕ → ℕ → ℤ → List (List ℕ)
@@ -87,17 +89,17 @@ reply-lined n kind flips delay =
     line-read (replyWords n kind flips delay)
     (decimal-word n, (decimal-word kind, (decimal-word 0, (decimal-word flips, (signed-word delay, tt)))))
 
-reply-lines : (c : Call) → ((ls : List (List ℕ)) → countOn c ls ≡ 1) → (n kind : ℕ) (r : Replied) (b : Bool)
-    → CallLines c (pick b (replyLine n kind (r .flips) (r .delay)) (answerLine n kind (r .number)))
+reply-lines : {c : Call} (p : Prints c) → ((ls : List (List ℕ)) → countBy p ls ≡ 1) → (n kind : ℕ) (r : Replied) (b : Bool)
+    → CallLines p (pick b (replyLine n kind (r .flips) (r .delay)) (answerLine n kind (r .number)))
 unfolding sixes
-reply-lines c one n kind r true =
+reply-lines p one n kind r true =
     record {
       lines = values (replyWords n kind (r .flips) (r .delay)) ∷ [];
       lined = reply-lined n kind (r .flips) (r .delay);
       count = λ t z. one _;
       first = λ t. refl;
     }
-reply-lines c one n kind r false = answer-lines c one n kind (r .number)
+reply-lines p one n kind r false = answer-lines p one n kind (r .number)
 
 -- a plan's lines
 pub record EntriesLined (text : List ℕ) : Type 0 where
@@ -121,7 +123,7 @@ entry-lined k (e ∷ es) =
       all-six = λ t z. ap suc (later .all-six t z);
     }
 
-plan-lines : (n kind tag : ℕ) (es : List Entry) → CallLines (plan tag) (answerLine n kind 0 ++ entryLines 0 es)
+plan-lines : (n kind tag : ℕ) (es : List Entry) → CallLines (ofPlan tag) (answerLine n kind 0 ++ entryLines 0 es)
 unfolding sixes
 plan-lines n kind tag es =
     let below = entry-lined 0 es in
@@ -155,7 +157,7 @@ two-or-one : (number : ℕ) (b : Bool) → eqb number 0 ≡ b → _≡_ {A = ℕ
 two-or-one number b e = rw (decimal-value number, e)
 
 report-lines : (n kind a : ℕ) (r : Report) (b : Bool) → eqb (r .number) 0 ≡ b
-    → CallLines (report a) (answerLine n kind (r .number) ++ pick b (reportLine (r .ac) (r .id)) [])
+    → CallLines (ofReport a) (answerLine n kind (r .number) ++ pick b (reportLine (r .ac) (r .id)) [])
 unfolding sixes
 report-lines n kind a r true e =
     record {
@@ -175,28 +177,22 @@ report-lines n kind a r false e =
       first = λ t. refl;
     }
 
-call-lines : (n kind : ℕ) (st : Station) (c : Call) → CallLines c (linesFor n kind st c)
-call-lines n kind st (setup h) = answer-lines (setup h) (λ ls. refl) n kind _
-call-lines n kind st (new a near far) = answer-lines (new a near far) (λ ls. refl) n kind _
-call-lines n kind st (remove a) = answer-lines (remove a) (λ ls. refl) n kind _
-call-lines n kind st (move a near far) = answer-lines (move a near far) (λ ls. refl) n kind _
-call-lines n kind st (request q) = answer-lines (request q) (λ ls. refl) n kind _
-call-lines n kind st (plan tag) = plan-lines n kind tag (entriesOf (nextPlan st tag .plan))
-call-lines n kind st (reply k tag msg marks out) =
-    let r = replied st k tag msg marks out in
-    reply-lines (reply k tag msg marks out) (λ ls. refl) n kind r (eqb (r .number) 0)
-call-lines n kind st (report a) = report-lines n kind a (reported st a) (eqb (reported st a .number) 0) refl
+lines-by : (n kind : ℕ) (st : Station) {c : Call} (p : Prints c) → CallLines p (linesBy p n kind st)
+lines-by n kind st plain = answer-lines plain (λ ls. refl) n kind _
+lines-by n kind st (ofPlan tag) = plan-lines n kind tag (entriesOf (nextPlan st tag .plan))
+lines-by n kind st (ofReply r) = reply-lines (ofReply r) (λ ls. refl) n kind (replied st r) (eqb (replied st r .number) 0)
+lines-by n kind st (ofReport a) = report-lines n kind a (reported st a) (eqb (reported st a .number) 0) refl
 
 -- ---- the text from a record on begins with no entry's line
 begins : (s : List ℕ) (at n : ℕ) (st : Station) (f : Found) (t : List ℕ) → recordAt s at ≡ f
-    → sixes (numbersOn (outcome s n st f .lines ++ pick (goesOn f) t [])) ≡ 0
-unfolding outcome goesOn sixes linesOf parts
+    → sixes (numbersOn (obeyedAt s n st f .lines ++ pick (goesOn f) t [])) ≡ 0
+unfolding obeyedAt goesOn sixes linesOf parts
 begins s at n st End t h = refl
 begins s at n st (Unknown b) t h = ap sixes (answer-lined n b 16 [])
 begins s at n st (Cut kind) t h = ap sixes (answer-lined n kind 17 [])
 begins s at n st (Whole kind body next) t h =
-    let l = call-lines n kind st (callOf s kind body) in
-    ap (λ (o : Outcome). sixes (numbersOn (o .lines ++ t))) (whole-done s at n st h) ∙ ap sixes (l .lined t) ∙ l .first (numbersOn t)
+    let l = lines-by n kind st (printsOf (callOf s kind body)) in
+    ap (λ (o : Obeyed). sixes (numbersOn (o .lines ++ t))) (whole-done s at n st h) ∙ ap sixes (l .lined t) ∙ l .first (numbersOn t)
 
 onward-begins : (j : ℕ) (s : List ℕ) (k : ℕ) → sixes (numbersOn (onward j s k)) ≡ 0
 unfolding textFrom sixes linesOf parts recordLines
@@ -206,7 +202,7 @@ onward-begins (suc j) s k =
     ∙ begins s (placeOf s k) (suc k) (after (callsOf s k)) (foundAfter s k) (onward j s (suc k)) refl
 
 -- ---- record after record
-read-lines : (c : Call) (text : List ℕ) (v : List Shown) (t : List ℕ) → CallLines c text → sixes (numbersOn t) ≡ 0
+read-lines : (c : Call) (text : List ℕ) (v : List Shown) (t : List ℕ) → CallLines (printsOf c) text → sixes (numbersOn t) ≡ 0
     → readWhole c (record { shown = v; left = numbersOn (text ++ t) }) ≡ record { shown = shownIn c text ∷ v; left = numbersOn t }
 read-lines c text v t l z =
     let ls = l .lines in
@@ -217,18 +213,18 @@ read-lines c text v t l z =
     (drop-at ls (numbersOn t) (countOn c (ls ++ numbersOn t)) n)
 
 read-found : (s : List ℕ) (at n : ℕ) (st : Station) (f : Found) (v : List Shown) (t : List ℕ) → recordAt s at ≡ f → goesOn f ≡ true → sixes (numbersOn t) ≡ 0
-    → readOne s f (record { shown = v; left = numbersOn (outcome s n st f .lines ++ pick (goesOn f) t []) })
-    ≡ record { shown = seen s f (outcome s n st f .lines) v; left = numbersOn t }
-unfolding readOne seen outcome goesOn
+    → readOne s f (record { shown = v; left = numbersOn (obeyedAt s n st f .lines ++ pick (goesOn f) t []) })
+    ≡ record { shown = seen s f (obeyedAt s n st f .lines) v; left = numbersOn t }
+unfolding readOne seen obeyedAt goesOn
 read-found s at n st End v t h e z = let w : _≡_ {A = ℕ} 0 1 = cc in absurd (omega arith)
 read-found s at n st (Unknown b) v t h e z = let w : _≡_ {A = ℕ} 0 1 = cc in absurd (omega arith)
 read-found s at n st (Cut kind) v t h e z = let w : _≡_ {A = ℕ} 0 1 = cc in absurd (omega arith)
 read-found s at n st (Whole kind body next) v t h e z =
     let c = callOf s kind body in
     let o = whole-done s at n st h in
-    ap (λ (x : Outcome). readWhole c (record { shown = v; left = numbersOn (x .lines ++ t) })) o
-    ∙ read-lines c (linesFor n kind st c) v t (call-lines n kind st c) z
-    ∙ ap (λ (x : Outcome). record { shown = shownIn c (x .lines) ∷ v; left = numbersOn t }) (sym o)
+    ap (λ (x : Obeyed). readWhole c (record { shown = v; left = numbersOn (x .lines ++ t) })) o
+    ∙ read-lines c (linesFor n kind st c) v t (lines-by n kind st (printsOf c)) z
+    ∙ ap (λ (x : Obeyed). record { shown = shownIn c (x .lines) ∷ v; left = numbersOn t }) (sym o)
 
 read-on : (s : List ℕ) (k j m : ℕ) → k + j ≡ m → reached s k ≡ true
     → readTo s (onward m s 0) k ≡ record { shown = shownTo s k; left = numbersOn (onward j s k) }

@@ -5,11 +5,12 @@ use mathlib.Core.Bool.{Bool, true, false, not}
 use mathlib.Core.List.{List, [], _∷_, _++_, map}
 use lib.Dec.{eqb}
 use lib.ListN.{getD, set}
-use borrow.Author.Tests.{eqb-true, eqb-false, eq-eqb, ne-eqb}
+use borrow.Author.Tests.{eqb-true, eq-eqb, ne-eqb, not-false}
 use Rattle.lists.specs.Lists.{pick, filter}
-use Rattle.lists.specs.Checks.{checked, given}
+use Rattle.lists.proofs.Checks.{Passed, CameTo, was-refused, was-done}
 use Rattle.lists.proofs.Held.{all-map}
 use Rattle.lists.proofs.Each.{image-set, image-at, image-same, image-through}
+use Rattle.parity_rules.specs.Correction.{flippedBy}
 use Rattle.planner_rules.specs.declared.request.Request.{Request}
 use Rattle.planner_rules.specs.declared.request.Ask.{Ask}
 use Rattle.planner_rules.specs.declared.entry.Entry.{Entry}
@@ -19,40 +20,39 @@ use Rattle.planner_rules.specs.Plan.{Board, plan}
 use Rattle.planner_rules.specs.Demand3.{askOf}
 use Rattle.planner_rules.specs.Told.{EntryShown, entryShown, toldBy}
 use Rattle.planner_rules.proofs.Told.{plan-told}
+use Rattle.station_rules.specs.declared.state.Value.the-variants.{Heard}
 use Rattle.station_rules.specs.declared.state.Target.{Target}
 use Rattle.station_rules.specs.declared.state.Targets.{Targets}
 use Rattle.station_rules.specs.declared.state.Station.{Station}
-use Rattle.station_rules.specs.declared.state.Answer.{Answer}
-use Rattle.station_rules.specs.State.{targetsOf, targetsAs, isAt, placeIn, inList, targetAt, fresh, older}
+use Rattle.station_rules.specs.declared.state.Outcome.{Outcome}
+use Rattle.station_rules.specs.State.{targetsOf, targetsAs, isAt, placeIn, inList, targetAt, fresh, withEdges, withAC, withID, older}
 use Rattle.station_rules.specs.State.{requestsOf, entriesOf, withdrawn, withStatus, noAsk, noEntry, emptied, beforeSetup}
-use Rattle.station_rules.specs.Calls.{without, edged}
+use Rattle.station_rules.specs.Calls.{refused, leaves, newTargetChecks, without, moveChecks, withMoved}
 use Rattle.station_rules.specs.Planning.{askFor, requestOf, asked, boardFor, nextPlan}
-use Rattle.station_rules.specs.Replies.{expected, valueIn, saidIn, saidAC, saidID, holdsID, targetsHeard, entryNumbered, afterReply, replied}
-use Rattle.station_rules.specs.Numbers.{matchesOf, correctedBy}
+use Rattle.station_rules.specs.Replies.{expected, valueIn, saidIn, holdsID, targetsHeard, entryNumbered, afterReply}
+use Rattle.station_rules.specs.Replies.{Received, matchesFor, corrected, Replied, replied}
 use Rattle.station_rules.specs.History as calls
-use Rattle.station_rules.specs.History.{Call, answer, after}
+use Rattle.station_rules.specs.History.{Call, answer, after, checksOf, next}
 use Rattle.station_rules.specs.Kept.{Waits, Kept}
-use Rattle.station_rules.specs.Seen.{Event, event, events, inForce}
+use Rattle.station_rules.specs.Seen.{Effect, spoke, planned, none, effectBy, effect, seenAs, events, inForce}
 use Rattle.station_rules.proofs.Lookup.{has, look, Tells, tells-none, tells-new, tells-removed, tells-put, tells-changed}
-use Rattle.station_rules.proofs.Came.{Came, refusal, did-setup, did-new, did-remove, did-move, did-request, did-plan, did-reply, did-report, came}
+use Rattle.station_rules.proofs.Came.{came, taken}
 use Rattle.station_rules.proofs.Keeping.{targets-are, requests-are, entries-are, address-of, said-address, heardList, plan-shows, plan-leaves, always-kept}
 use Rattle.station_rules.proofs.Ages.{in-force}
-use Rattle.station_rules.proofs.Replies.{taken}
 use Rattle.station_rules.proofs.Demands.{demand1}
-use Rattle.stream_rules.specs.Spelled.{numberGiven}
-use Rattle.stream_rules.specs.Reader.{Shown, Known, nothingBut, withEdges, askKnown, askedKnown}
-use Rattle.stream_rules.specs.Reader.{boardBy, knownAfter, knownBy, lineOf, plainEvent, eventFor, eventsBy}
+use Rattle.stream_rules.specs.Spelled.{numberGiven, Prints, plain, ofPlan, ofReply, ofReport, printsOf}
+use Rattle.stream_rules.specs.Reader.{Shown, Known, nothingBut, knowingEdges, askKnown, askedKnown}
+use Rattle.stream_rules.specs.Reader.{boardBy, knownAfter, knownBy, lineOf, correctedIn, eventFor, eventsBy}
 
 -- ---- what the calls show, as the station has it
+abbrev pub madeBy : {c : Call} → Prints c → Station → List Entry
+madeBy plain s = []
+madeBy (ofPlan tag) s = entriesOf (nextPlan s tag .plan)
+madeBy (ofReply r) s = []
+madeBy (ofReport a) s = []
+
 abbrev pub entriesMade : Station → Call → List Entry
-entriesMade s (calls.setup h) = []
-entriesMade s (calls.new a near far) = []
-entriesMade s (calls.remove a) = []
-entriesMade s (calls.move a near far) = []
-entriesMade s (calls.request q) = []
-entriesMade s (calls.plan tag) = entriesOf (nextPlan s tag .plan)
-entriesMade s (calls.reply k tag msg marks out) = []
-entriesMade s (calls.report a) = []
+entriesMade s c = madeBy (printsOf c) s
 
 abbrev pub shownFor : List Call → Call → Shown
 shownFor cs c = record { call = c; number = numberGiven cs c; entries = map entryShown (entriesMade (after cs) c) }
@@ -82,10 +82,11 @@ knows-nothing h s =
     record { setup-is = refl; edges-are = λ q. tells-none (askIn q) (q .address) _; waiting-is = refl; tag-is = refl; lines-are = refl }
 
 -- near and far of an address, and of another
-told-edges : (b near far : ℕ) (k : Known) (q : Request) → b ≡ q .address → record { request = q; near = near; far = far } ≡ askKnown (withEdges b near far k) q
+told-edges : (b near far : ℕ) (k : Known) (q : Request) → b ≡ q .address
+    → record { request = q; near = near; far = far } ≡ askKnown (knowingEdges b near far k) q
 told-edges b near far k q e = rw (eq-eqb b (q .address) e)
 
-other-edges : (b near far : ℕ) (k : Known) (q : Request) → (b ≡ q .address → ⊥) → askKnown k q ≡ askKnown (withEdges b near far k) q
+other-edges : (b near far : ℕ) (k : Known) (q : Request) → (b ≡ q .address → ⊥) → askKnown k q ≡ askKnown (knowingEdges b near far k) q
 other-edges b near far k q n = rw (ne-eqb b (q .address) n)
 
 -- the parts hold the list that was laid over them
@@ -96,7 +97,7 @@ over-targets v t k h q = rw (targets-are v t) (h q)
 said-edges : (q : Request) (f v : ℕ) (t : Target) → askIn q (saidIn f v t) ≡ askIn q t
 said-edges q f v t = go (holdsID f)
   where
-    go : (b : Bool) → askIn q (pick b (saidID v t) (saidAC v t)) ≡ askIn q t
+    go : (b : Bool) → askIn q (pick b (withID (Heard v 0) t) (withAC (Heard v 0) t)) ≡ askIn q t
     go true = refl
     go false = refl
 
@@ -143,12 +144,9 @@ module _ (s : Station) (k : Known) (h : Knows s k) where
   board-made ok tag = ap (λ (es : List Entry). boardBy k (map entryShown es)) (plan-shows s tag) ∙ board-known ok
 
   -- ---- call by call
-  abbrev Next : Call → Answer → Type 0
-  Next c r = Knows (r .station) (pick (eqb (r .number) 0) (knownAfter c (map entryShown (entriesMade s c)) k) k)
-
-  next-new : (b near far : ℕ) → inList b (s .targets) ≡ false → EdgesAre (targetsOf (s .targets) ++ (fresh b near far ∷ [])) (withEdges b near far k)
+  next-new : (b near far : ℕ) → inList b (s .targets) ≡ false → EdgesAre (targetsOf (s .targets) ++ (fresh b near far ∷ [])) (knowingEdges b near far k)
   next-new b near far n q =
-      tells-new (askIn q) (q .address) (targetsOf (s .targets)) (askKnown k q) (askKnown (withEdges b near far k) q) (fresh b near far) n
+      tells-new (askIn q) (q .address) (targetsOf (s .targets)) (askKnown k q) (askKnown (knowingEdges b near far k) q) (fresh b near far) n
       (told-edges b near far k q) (other-edges b near far k q) (h .edges-are q)
 
   next-without : (a : ℕ) → Knows (without a s) (knownAfter (calls.remove a) [] k)
@@ -195,45 +193,55 @@ module _ (s : Station) (k : Known) (h : Knows s k) where
             ∙ h .lines-are;
       }
 
-  next : Kept s → (c : Call) (r : Answer) → Came s c r → Next c r
-  next ok c r (refusal n z e) =
-      subst (Next c) (sym e) (rw (ne-eqb n 0 z) h)
-  next ok c r (did-setup g a e) = subst (Next (calls.setup g)) (sym e) (knows-nothing g s)
-  next ok c r (did-new b near far g n e) =
-      subst (Next (calls.new b near far)) (sym e)
-      (record {
-        setup-is = h .setup-is;
-        edges-are = over-targets (targetsOf (s .targets) ++ (fresh b near far ∷ [])) (s .targets) (withEdges b near far k) (next-new b near far n);
-        waiting-is = h .waiting-is;
-        tag-is = h .tag-is;
-        lines-are = h .lines-are;
-      })
-  next ok c r (did-remove a e) = subst (Next (calls.remove a)) (sym e) (next-without a)
-  next ok c r (did-move b near far g n e) =
+  next-moved : (b near far : ℕ) → inList b (s .targets) ≡ true → Knows (withMoved b near far s) (knowingEdges b near far k)
+  next-moved b near far n =
       let ts = targetsOf (s .targets) in
-      let t = edged near far (targetAt b (s .targets)) in
-      subst (Next (calls.move b near far)) (sym e)
-      (record {
+      let t = withEdges near far (targetAt b (s .targets)) in
+      record {
         setup-is = h .setup-is;
         edges-are =
-            over-targets (set ts (placeIn ts b) t) (s .targets) (withEdges b near far k)
-            (put-edges b t (withEdges b near far k) (address-of b ts n) n (told-edges b near far k) (other-edges b near far k));
+            over-targets (set ts (placeIn ts b) t) (s .targets) (knowingEdges b near far k)
+            (put-edges b t (knowingEdges b near far k) (address-of b ts n) n (told-edges b near far k) (other-edges b near far k));
         waiting-is = h .waiting-is;
         tag-is = h .tag-is;
         lines-are = h .lines-are;
-      })
-  next ok c r (did-request q g n m e) =
-      subst (Next (calls.request q)) (sym e)
-      (record {
+      }
+
+  next-known : Kept s → (c : Call) → Passed (checksOf s c) → Knows (next s c) (knownAfter c (map entryShown (entriesMade s c)) k)
+  unfolding newTargetChecks moveChecks
+  next-known ok (calls.setup g) p = knows-nothing g s
+  next-known ok (calls.new b near far) p =
+      record {
+        setup-is = h .setup-is;
+        edges-are = over-targets (targetsOf (s .targets) ++ (fresh b near far ∷ [])) (s .targets) (knowingEdges b near far k) (next-new b near far (p .off 5));
+        waiting-is = h .waiting-is;
+        tag-is = h .tag-is;
+        lines-are = h .lines-are;
+      }
+  next-known ok (calls.remove a) p = next-without a
+  next-known ok (calls.move b near far) p = next-moved b near far (not-false _ (p .off 4))
+  next-known ok (calls.request q) p =
+      record {
         setup-is = h .setup-is;
         edges-are = h .edges-are;
         waiting-is = requests-are (requestsOf (s .waiting) ++ (q ∷ [])) (s .waiting) ∙ ap (λ (v : List Request). v ++ (q ∷ [])) (h .waiting-is);
         tag-is = h .tag-is;
         lines-are = h .lines-are;
-      })
-  next ok c r (did-plan tag e) = subst (Next (calls.plan tag)) (sym e) (next-plan ok tag)
-  next ok c r (did-reply j tag msg marks out m o e) = subst (Next (calls.reply j tag msg marks out)) (sym e) (next-heard j m)
-  next ok c r (did-report a e) = subst (Next (calls.report a)) (sym e) h
+      }
+  next-known ok (calls.plan tag) p = next-plan ok tag
+  next-known ok (calls.reply r) p = next-heard (r .entry) (corrected s r .output)
+  next-known ok (calls.report a) p = h
+
+  -- a refused call changes nothing
+  abbrev known : Call → ℕ → Known
+  known c n = pick (eqb n 0) (knownAfter c (map entryShown (entriesMade s c)) k) k
+
+  knows-next : Kept s → (c : Call) → Knows (answer s c .station) (known c (answer s c .number))
+  knows-next ok c = go (answer s c) (came s c)
+    where
+      go : (r : Outcome) → CameTo (checksOf s c) (refused s) (leaves (next s c)) r → Knows (r .station) (known c (r .number))
+      go r (was-refused x z e g w) = subst (λ (a : Outcome). Knows (a .station) (known c (a .number))) (sym w) (rw (ne-eqb (x .number) 0 z) h)
+      go r (was-done p z w) = subst (λ (a : Outcome). Knows (a .station) (known c (a .number))) (sym w) (next-known ok c p)
 
 -- after every history: setup, near and far, waiting list, tag and lines
 pub known-is : (cs : List Call) → Knows (after cs) (knownBy (shownOf cs))
@@ -243,7 +251,7 @@ known-is (c ∷ cs) =
     let k = knownBy (shownOf cs) in
     let same : answer (after cs) c .number ≡ numberGiven cs c = demand1 cs .numbers c in
     subst (λ (n : ℕ). Knows (answer (after cs) c .station) (pick (eqb n 0) (knownAfter c (map entryShown (entriesMade (after cs) c)) k) k)) same
-    (next (after cs) k (known-is cs) (always-kept cs) c (answer (after cs) c) (came (after cs) c))
+    (knows-next (after cs) k (known-is cs) (always-kept cs) c)
 
 -- the waiting list, told from requests, plans, removals and setups alone
 pub waiting-read : (cs : List Call) → knownBy (shownOf cs) .waiting ≡ requestsOf (after cs .waiting)
@@ -265,41 +273,56 @@ line-of-entry cs e =
 pub entry-asks : (cs : List Call) (e : ℕ) → getD (inForce (events cs)) e noAsk ≡ entryNumbered e (after cs) .ask
 entry-asks cs e = ap (λ (l : List Ask). getD l e noAsk) (sym (in-force cs)) ∙ image-at askOf (entriesOf (after cs .plan)) e noEntry
 
-module _ (cs : List Call) (e tag : ℕ) (msg marks out : List ℕ) where
-  abbrev found : List ℕ
-  found = correctedBy msg (matchesOf (getD (inForce (events cs)) e noAsk .request) msg marks)
+-- what a call does, by two tellers that agree on the plan that it makes and on the message that it corrects
+same-effect : (m n : ℕ → List Ask) (f g : Received → List ℕ) (c : Call) → ((tag : ℕ) → c ≡ calls.plan tag → m tag ≡ n tag)
+    → ((r : Received) → c ≡ calls.reply r → f r ≡ g r) → effectBy m f c ≡ effectBy n g c
+same-effect m n f g (calls.setup h) p q = refl
+same-effect m n f g (calls.new a near far) p q = refl
+same-effect m n f g (calls.remove a) p q = refl
+same-effect m n f g (calls.move a near far) p q = refl
+same-effect m n f g (calls.request r) p q = refl
+same-effect m n f g (calls.plan tag) p q = ap planned (p tag refl)
+same-effect m n f g (calls.reply r) p q = ap (spoke (r .entry)) (q r refl)
+same-effect m n f g (calls.report a) p q = refl
 
-  output-read : (n : ℕ) (b : Bool) → n ≡ replied (after cs) e tag msg marks out .number → eqb n 0 ≡ b
-      → pick b found out ≡ replied (after cs) e tag msg marks out .output
-  output-read n true q z =
-      ap (λ (x : Ask). correctedBy msg (matchesOf (x .request) msg marks)) (entry-asks cs e)
-      ∙ sym (taken (after cs) e tag msg marks out (sym q ∙ eqb-true n 0 z) .writes)
-  output-read n false q z = sym (demand1 cs .unwritten e tag msg marks out (λ y. eqb-false n 0 z (q ∙ y)))
+module _ (cs : List Call) where
+  -- the corrected message of a taken reply
+  output-read : (r : Received) → replied (after cs) r .number ≡ 0 → correctedIn (events cs) r ≡ replied (after cs) r .output
+  output-read r z =
+      ap (λ (x : Ask). flippedBy (r .message) (matchesFor (x .request) r) .output) (entry-asks cs (r .entry))
+      ∙ sym (ap (λ (x : Replied). x .output) (taken (after cs) r z .is))
 
-event-read : (cs : List Call) (c : Call)
-    → eventFor (events cs) (knownBy (shownOf cs)) c (numberGiven cs c) (map entryShown (entriesMade (after cs) c)) ≡ event (after cs) c
-unfolding checked
-event-read cs (calls.setup h) = ap (plainEvent (calls.setup h)) (sym (demand1 cs .numbers (calls.setup h)))
-event-read cs (calls.new a near far) = ap (plainEvent (calls.new a near far)) (sym (demand1 cs .numbers (calls.new a near far)))
-event-read cs (calls.remove a) = ap (plainEvent (calls.remove a)) (sym (demand1 cs .numbers (calls.remove a)))
-event-read cs (calls.move a near far) = ap (plainEvent (calls.move a near far)) (sym (demand1 cs .numbers (calls.move a near far)))
-event-read cs (calls.request q) = ap (plainEvent (calls.request q)) (sym (demand1 cs .numbers (calls.request q)))
-event-read cs (calls.plan tag) =
-    ap (λ (es : List Entry). record { call = calls.plan tag; number = 0; asks = map askOf es; output = [] })
-    (ap (λ (b : Board). b .placed) (board-read cs tag) ∙ sym (plan-shows (after cs) tag))
-event-read cs (calls.reply e tag msg marks out) =
-    let c = calls.reply e tag msg marks out in
-    let same = demand1 cs .numbers c in
-    ap₂ (λ (n : ℕ) (o : List ℕ). record { call = c; number = n; asks = []; output = o }) (sym same)
-    (output-read cs e tag msg marks out (numberGiven cs c) (eqb (numberGiven cs c) 0) (sym same) refl)
-event-read cs (calls.report a) = ap (plainEvent (calls.report a)) (sym (demand1 cs .numbers (calls.report a)))
+  made-read : (c : Call) (tag : ℕ) → c ≡ calls.plan tag
+      → map askOf (boardBy (knownBy (shownOf cs)) (map entryShown (entriesMade (after cs) c)) .placed) ≡ map askOf (entriesOf (nextPlan (after cs) tag .plan))
+  made-read c tag e =
+      ap (λ (x : Call). map askOf (boardBy (knownBy (shownOf cs)) (map entryShown (entriesMade (after cs) x)) .placed)) e
+      ∙ ap (λ (b : Board). map askOf (b .placed)) (board-read cs tag)
+      ∙ ap (map askOf) (sym (plan-shows (after cs) tag))
+
+  done-read : (c : Call) → answer (after cs) c .number ≡ 0
+      → effectBy (λ tag. map askOf (boardBy (knownBy (shownOf cs)) (map entryShown (entriesMade (after cs) c)) .placed)) (correctedIn (events cs)) c ≡ effect
+      (after cs) c
+  done-read c z =
+      same-effect _ (λ tag. map askOf (entriesOf (nextPlan (after cs) tag .plan))) (correctedIn (events cs)) (λ r. replied (after cs) r .output) c (made-read c)
+      (λ r e. output-read r (ap (λ (x : Call). answer (after cs) x .number) (sym e) ∙ z))
+
+  seen-by : (x y : Effect) (n : ℕ) (b : Bool) → eqb n 0 ≡ b → (n ≡ 0 → x ≡ y) → pick b x none ≡ pick b y none
+  seen-by x y n true e h = h (eqb-true n 0 e)
+  seen-by x y n false e h = refl
+
+  event-read : (c : Call)
+      → eventFor (events cs) (knownBy (shownOf cs)) c (numberGiven cs c) (map entryShown (entriesMade (after cs) c))
+      ≡ seenAs (answer (after cs) c .number) (effect (after cs) c)
+  event-read c =
+      rw (← demand1 cs .numbers c)
+      (seen-by _ (effect (after cs) c) (answer (after cs) c .number) (eqb (answer (after cs) c .number) 0) refl (done-read c))
 
 -- a reader finds what the caller would have seen
 pub events-read : (cs : List Call) → eventsBy (shownOf cs) ≡ events cs
 unfolding eventsBy shownOf events
 events-read [] = refl
 events-read (c ∷ cs) =
-    ap₂ (λ (x : Event) (l : List Event). x ∷ l)
-    (ap (λ (l : List Event). eventFor l (knownBy (shownOf cs)) c (numberGiven cs c) (map entryShown (entriesMade (after cs) c))) (events-read cs)
+    ap₂ (λ (x : Effect) (l : List Effect). x ∷ l)
+    (ap (λ (l : List Effect). eventFor l (knownBy (shownOf cs)) c (numberGiven cs c) (map entryShown (entriesMade (after cs) c))) (events-read cs)
     ∙ event-read cs c)
     (events-read cs)

@@ -6,15 +6,16 @@ use mathlib.Core.Path.{_≡_, refl, sym, ap, _∙_}
 use mathlib.Core.Bool.{Bool, true, false}
 use mathlib.Core.List.{List, [], _++_, append-nil, append-assoc}
 use lib.ListN.{length, getD, take, length-take}
-use borrow.Author.Tests.{le-leb, leb-false}
+use borrow.Author.Tests.{leb-false}
 use Rattle.lists.specs.Lists.{pick}
 use Rattle.reader_rules.specs.declared.reading.Found.{Found}
 use Rattle.reader_rules.specs.declared.reading.Found.the-variants.{End, Unknown, Cut, Whole}
 use Rattle.reader_rules.specs.Records.{bodyLength, recordAt, nextPlace}
-use Rattle.reader_rules.proofs.Steps.{whole-fits}
+use Rattle.reader_rules.proofs.Steps.{whole-fits, past-end}
 use Rattle.station_rules.specs.declared.state.Station.{Station}
 use Rattle.stream_rules.specs.declared.run.Run.{Run}
-use Rattle.stream_rules.specs.Run.{outcome, goesOn, textFrom, transcript, begun, outcomeNow, linesNow, stepped, advanced, written, runAfter, room, longest, isFull, writtenLate}
+use Rattle.stream_rules.specs.Run.{obeyedAt, goesOn, textFrom, transcript, begun, obeyedNow, linesNow, stepped, advanced, written, runAfter, room}
+use Rattle.stream_rules.specs.Run.{longest, isFull, writtenLate}
 
 -- ---- a step takes each byte at most once
 
@@ -104,24 +105,21 @@ the-run-ends input = steps-end 65537 (take 65536 input) begun (simp length-take 
 
 -- ---- more steps than bytes print nothing more
 
-past-end : (s : List ℕ) (at : ℕ) → length s ≤ at → recordAt s at ≡ End
-unfolding recordAt
-past-end s at h = rw (le-leb (length s) at h)
-
 -- the text of what stands at a place and of what follows
 abbrev onward : ℕ → List ℕ → ℕ → ℕ → Station → Found → Bool → List ℕ
-onward k s at n st f b = outcome s n st f .lines ++ pick b (textFrom k s (nextPlace f at) (n + 1) (outcome s n st f .station)) []
+onward k s at n st f b = obeyedAt s n st f .lines ++ pick b (textFrom k s (nextPlace f at) (n + 1) (obeyedAt s n st f .station)) []
 
 same-onward : (j k : ℕ) (s : List ℕ) (at n : ℕ) (st : Station)
     → ((to m : ℕ) (after : Station) → length s < to + j → length s < to + k → textFrom j s to m after ≡ textFrom k s to m after)
-    → (f : Found) (b : Bool) → recordAt s at ≡ f → goesOn f ≡ b → length s < at + suc j → length s < at + suc k → onward j s at n st f b ≡ onward k s at n st f b
+    → (f : Found) (b : Bool) → recordAt s at ≡ f → goesOn f ≡ b → length s < at + suc j → length s < at + suc k → onward j s at n st f b ≡ onward k s at n st
+    f b
 same-onward j k s at n st later f false h e x y = refl
 same-onward j k s at n st later f true h e x y =
     let t = taken-by s at f h e in
-    rw (later (nextPlace f at) (n + 1) (outcome s n st f .station) (omega (arith, t .forward)) (omega (arith, t .forward)))
+    rw (later (nextPlace f at) (n + 1) (obeyedAt s n st f .station) (omega (arith, t .forward)) (omega (arith, t .forward)))
 
 pub enough : (j k : ℕ) (s : List ℕ) (at n : ℕ) (st : Station) → length s < at + j → length s < at + k → textFrom j s at n st ≡ textFrom k s at n st
-unfolding textFrom goesOn outcome
+unfolding textFrom goesOn obeyedAt
 enough zero zero s at n st a b = refl
 enough zero (suc k) s at n st a b = rw (past-end s at (omega arith))
 enough (suc j) zero s at n st a b = rw (past-end s at (omega arith))
@@ -137,7 +135,7 @@ pub record Sound (s : List ℕ) (r : Run) : Type 0 where
 -- what follows a step, by whether the run goes on
 follow : (k : ℕ) (s : List ℕ) (r q : Run) (b : Bool) → q ≡ stepped s r → goesOn (recordAt s (r .at)) ≡ b → length s ≤ 65536 → Sound s r
     → ((q : Run) → Sound s q → q .more ≡ true → written k s q ≡ textFrom k s (q .at) (q .n) (q .station))
-    → written k s q ≡ pick b (textFrom k s (nextPlace (recordAt s (r .at)) (r .at)) (r .n + 1) (outcomeNow s r .station)) []
+    → written k s q ≡ pick b (textFrom k s (nextPlace (recordAt s (r .at)) (r .at)) (r .n + 1) (obeyedNow s r .station)) []
 unfolding stepped
 follow k s r q false d e small ok later = writes-nothing k s q (ap (λ (x : Run). x .more) d ∙ e)
 follow k s r q true d e small ok later =
@@ -148,11 +146,11 @@ follow k s r q true d e small ok later =
 
 -- what k steps write of a run that goes on is the text of k records
 pub steps-write : (k : ℕ) (s : List ℕ) (r : Run) → length s ≤ 65536 → Sound s r → r .more ≡ true → written k s r ≡ textFrom k s (r .at) (r .n) (r .station)
-unfolding written textFrom linesNow outcomeNow advanced stepped
+unfolding written textFrom linesNow obeyedNow advanced stepped
 steps-write zero s r small ok m = refl
 steps-write (suc k) s r small ok m =
     rw m
-    (ap (λ (t : List ℕ). outcomeNow s r .lines ++ t)
+    (ap (λ (t : List ℕ). obeyedNow s r .lines ++ t)
     (follow k s r (stepped s r) (goesOn (recordAt s (r .at))) refl refl small ok (λ q y z. steps-write k s q small y z)))
 
 -- the steps, one after the other, write exactly the transcript

@@ -3,9 +3,8 @@ use Prim.Native.Nat.{ℕ, zero, suc, _+_, _-_, _≤_, _<_, min}
 use mathlib.Core.Path.{_≡_, refl, ap, sym, _∙_}
 use mathlib.Core.Bool.{Bool, true, false}
 use mathlib.Core.List.{List, [], _++_}
-use lib.Dec.{eqb, leb, ltb}
+use lib.Dec.{eqb}
 use lib.ListN.{length, getD, drop, replicate}
-use borrow.Author.Tests.{eqb-false}
 use native.Mathlib.Omega.{arith}
 use Rattle.lists.specs.Lists.{pick}
 use Rattle.lists.proofs.Held.{all-take, all-drop}
@@ -18,13 +17,13 @@ use Rattle.station_rules.specs.declared.state.Station.{Station}
 use Rattle.station_rules.specs.State.{entriesOf}
 use Rattle.station_rules.specs.Calls.{reported}
 use Rattle.station_rules.specs.Planning.{nextPlan}
-use Rattle.station_rules.specs.Replies.{Replied, replied}
-use Rattle.station_rules.specs.History.{Call, setup, new, remove, move, request, plan, reply, report, answer, after}
+use Rattle.station_rules.specs.Replies.{received, Replied, replied}
+use Rattle.station_rules.specs.History.{Call, answer, after}
 use Rattle.stream_rules.specs.declared.run.Run.{Run}
 use Rattle.stream_rules.specs.Lines.{answerLine, entryLines, reportLine}
-use Rattle.stream_rules.specs.Step.{Outcome, obeyed, repliedTo, replyTo, zeros}
-use Rattle.stream_rules.specs.Run.{outcome, goesOn, begun, outcomeNow, stepped, advanced, runAfter}
-use Rattle.stream_rules.specs.Spelled.{bytesAt, callOf, called, placeOf, foundAfter, callsOf}
+use Rattle.stream_rules.specs.Step.{Obeyed, obeyed, repliedTo, replyTo, zeros}
+use Rattle.stream_rules.specs.Run.{obeyedAt, goesOn, begun, obeyedNow, stepped, advanced, runAfter}
+use Rattle.stream_rules.specs.Spelled.{bytesAt, callOf, Prints, plain, ofPlan, ofReply, ofReport, printsOf, called, placeOf, foundAfter, callsOf}
 use Rattle.stream_rules.proofs.Runs.{stays-by}
 
 -- ---- the nine kinds
@@ -45,7 +44,7 @@ by-kind P a b c d e f g h i (suc (suc (suc (suc (suc (suc (suc (suc (suc (suc n)
 
 -- message and marks are the bytes that stand behind entry and tag
 abbrev repliedBy : Station → List ℕ → ℕ → ℕ → Replied
-repliedBy st s b m = replied st (getD s b 0) (numberAt s (b + 1) 4) (bytesAt s (b + 5) m) (bytesAt s (b + 5 + m) m) (replicate m 0)
+repliedBy st s b m = replied st (received (getD s b 0) (numberAt s (b + 1) 4) (bytesAt s (b + 5) m) (bytesAt s (b + 5 + m) m) (replicate m 0))
 
 reply-is : (s : List ℕ) (b : ℕ) (st : Station) (kind m : ℕ) → messageLength kind ≡ m → b + 5 + m + m ≤ length s
     → replyTo s kind b st (zeros kind) ≡ repliedBy st s b m
@@ -58,20 +57,19 @@ reply-is s b st kind m k h =
     rw (k, p, q, r, x, y)
 
 -- the lines of a call as record n of a kind
-abbrev pub linesFor : ℕ → ℕ → Station → Call → List ℕ
-linesFor n kind st (setup h) = answerLine n kind (answer st (setup h) .number)
-linesFor n kind st (new a near far) = answerLine n kind (answer st (new a near far) .number)
-linesFor n kind st (remove a) = answerLine n kind (answer st (remove a) .number)
-linesFor n kind st (move a near far) = answerLine n kind (answer st (move a near far) .number)
-linesFor n kind st (request q) = answerLine n kind (answer st (request q) .number)
-linesFor n kind st (plan tag) = answerLine n kind 0 ++ entryLines 0 (entriesOf (nextPlan st tag .plan))
-linesFor n kind st (reply k tag msg marks out) = repliedTo n kind (replied st k tag msg marks out) .lines
-linesFor n kind st (report a) =
+abbrev pub linesBy : {c : Call} → Prints c → ℕ → ℕ → Station → List ℕ
+linesBy {c} plain n kind st = answerLine n kind (answer st c .number)
+linesBy (ofPlan tag) n kind st = answerLine n kind 0 ++ entryLines 0 (entriesOf (nextPlan st tag .plan))
+linesBy (ofReply r) n kind st = repliedTo n kind (replied st r) .lines
+linesBy (ofReport a) n kind st =
     answerLine n kind (reported st a .number)
     ++ pick (eqb (reported st a .number) 0) (reportLine (reported st a .ac) (reported st a .id)) []
 
+abbrev pub linesFor : ℕ → ℕ → Station → Call → List ℕ
+linesFor n kind st c = linesBy (printsOf c) n kind st
+
 -- and the station after it
-abbrev pub doneFor : ℕ → ℕ → Station → Call → Outcome
+abbrev pub doneFor : ℕ → ℕ → Station → Call → Obeyed
 doneFor n kind st c = record { lines = linesFor n kind st c; station = answer st c .station }
 
 -- a whole record prints and does what its call does
@@ -90,36 +88,21 @@ obeys-call s n b st =
     (λ _. refl)
     (λ _. refl)
 
--- a whole record is of one of the nine kinds
-known-by : (kind k b n x y : ℕ) (p q r : Bool) → eqb (bodyLength kind) 0 ≡ q
-    → pick p End (pick q (Unknown kind) (pick r (Cut kind) (Whole kind x y))) ≡ Whole k b n → bodyLength k ≡ 0 → ⊥
-known-by kind k b n x y true q r g e z = let w : _≡_ {A = ℕ} 0 1 = cc in absurd (omega arith)
-known-by kind k b n x y false true r g e z = let w : _≡_ {A = ℕ} 0 1 = cc in absurd (omega arith)
-known-by kind k b n x y false false true g e z = let w : _≡_ {A = ℕ} 0 1 = cc in absurd (omega arith)
-known-by kind k b n x y false false false g e z = let w : kind ≡ k = cc in eqb-false (bodyLength kind) 0 g (ap bodyLength w ∙ z)
-
-known : (s : List ℕ) (at : ℕ) {k b n : ℕ} → recordAt s at ≡ Whole k b n → bodyLength k ≡ 0 → ⊥
-unfolding recordAt
-known s at {k} {b} {n} e =
-    let kind = getD s at 0 in
-    known-by kind k b n (at + 1) (at + 1 + bodyLength kind) (leb (length s) at) (eqb (bodyLength kind) 0) (ltb (length s - (at + 1)) (bodyLength kind)) refl e
-
 -- what stands at a place is whole: it does what its call does
 pub whole-done : (s : List ℕ) (at n : ℕ) (st : Station) {kind body next : ℕ} → recordAt s at ≡ Whole kind body next
     → obeyed s n kind body st ≡ doneFor n kind st (callOf s kind body)
 whole-done s at n st {kind} {body} h =
-    obeys-call s n body st kind (known s at h) (let w = whole-fits s at h in omega (arith, w .next, w .inside))
+    obeys-call s n body st kind (whole-fits s at h .known) (let w = whole-fits s at h in omega (arith, w .next, w .inside))
 
 -- the message of a reply is of bytes where the stream is
+abbrev pub BytesBy : {c : Call} → Prints c → Type 0
+BytesBy plain = Unit {0}
+BytesBy (ofPlan tag) = Unit {0}
+BytesBy (ofReply r) = AreBytes (r .message)
+BytesBy (ofReport a) = Unit {0}
+
 abbrev pub MessageBytes : Call → Type 0
-MessageBytes (setup h) = Unit {0}
-MessageBytes (new a near far) = Unit {0}
-MessageBytes (remove a) = Unit {0}
-MessageBytes (move a near far) = Unit {0}
-MessageBytes (request q) = Unit {0}
-MessageBytes (plan tag) = Unit {0}
-MessageBytes (reply k tag msg marks out) = AreBytes msg
-MessageBytes (report a) = Unit {0}
+MessageBytes c = BytesBy (printsOf c)
 
 part-bytes : (s : List ℕ) (at m : ℕ) → AreBytes s → AreBytes (bytesAt s at m)
 part-bytes s at m h = all-take (λ b. b < 256) m (drop at s) (all-drop (λ b. b < 256) at s h)
@@ -127,16 +110,17 @@ part-bytes s at m h = all-take (λ b. b < 256) m (drop at s) (all-drop (λ b. b 
 pub message-bytes : (s : List ℕ) (at : ℕ) {kind body next : ℕ} → AreBytes s → recordAt s at ≡ Whole kind body next → MessageBytes (callOf s kind body)
 unfolding callOf
 message-bytes s at {kind} {body} bytes h =
-    by-kind (λ k. MessageBytes (callOf s k body)) tt tt tt tt tt (part-bytes s (body + 5) 7 bytes) (part-bytes s (body + 5) 14 bytes) tt tt kind (known s at h)
+    by-kind (λ k. MessageBytes (callOf s k body)) tt tt tt tt tt (part-bytes s (body + 5) 7 bytes) (part-bytes s (body + 5) 14 bytes) tt tt kind
+    (whole-fits s at h .known)
 
 -- ---- one record more
 -- what stands at a place leaves the station as the calls with its own leave it
-pub leaves : (s : List ℕ) (at n : ℕ) (cs : List Call) (f : Found) → recordAt s at ≡ f → outcome s n (after cs) f .station ≡ after (called s f cs)
-unfolding outcome called after
+pub leaves : (s : List ℕ) (at n : ℕ) (cs : List Call) (f : Found) → recordAt s at ≡ f → obeyedAt s n (after cs) f .station ≡ after (called s f cs)
+unfolding obeyedAt called after
 leaves s at n cs End h = refl
 leaves s at n cs (Unknown b) h = refl
 leaves s at n cs (Cut kind) h = refl
-leaves s at n cs (Whole kind body next) h = ap (λ (o : Outcome). o .station) (whole-done s at n (after cs) h)
+leaves s at n cs (Whole kind body next) h = ap (λ (o : Obeyed). o .station) (whole-done s at n (after cs) h)
 
 -- where the run does not go on, nothing is called and the place stays
 stays-calls : (s : List ℕ) (f : Found) (cs : List Call) → goesOn f ≡ false → called s f cs ≡ cs
@@ -154,7 +138,7 @@ pub record At (s : List ℕ) (k : ℕ) (r : Run) : Type 0 where
   pub ended : r .more ≡ false → goesOn (foundAfter s k) ≡ false
 
 at-step : (s : List ℕ) (k : ℕ) (r : Run) → At s k r → At s (suc k) (stepped s r)
-unfolding stepped outcomeNow placeOf callsOf
+unfolding stepped obeyedNow placeOf callsOf
 at-step s k r h =
     record {
       place = rw (h .place);

@@ -17,11 +17,12 @@ use Rattle.planner_rules.specs.Demand3.{Demand3}
 use Rattle.reader_rules.specs.declared.reading.Found.{Found}
 use Rattle.reader_rules.specs.declared.reading.Found.the-variants.{End, Unknown, Cut, Whole}
 use Rattle.station_rules.specs.State.{noAsk}
-use Rattle.station_rules.specs.Replies.{expected, startOf}
-use Rattle.station_rules.specs.History.{Call, setup, new, remove, move, request, plan, reply, report}
-use Rattle.station_rules.specs.Seen.{AC, ID, Event, inForce, lastSaid, shown}
+use Rattle.station_rules.specs.Replies.{Received, expected, startOf}
+use Rattle.station_rules.specs.History.{Call, plan, reply, report}
+use Rattle.station_rules.specs.Seen.{AC, ID, Effect, inForce, lastSaid, shown}
 use Rattle.stream_rules.specs.Lines.{line, answerLine, replyLine, entryLines, reportLine}
-use Rattle.stream_rules.specs.Spelled.{numberGiven, callOf, foundAfter, recordLines, linesBefore, reached, streamOf}
+use Rattle.stream_rules.specs.Spelled.{numberGiven, callOf, Prints, plain, ofPlan, ofReply, ofReport, printsOf, foundAfter, recordLines, linesBefore}
+use Rattle.stream_rules.specs.Spelled.{reached, streamOf}
 use Rattle.stream_rules.specs.Reader.{Shown, numbersOn, answerOn, entriesOn, knownBy, askedKnown, boardBy, lineOf, eventsBy}
 use Rattle.stream_rules.specs.Run.{goesOn, transcript}
 
@@ -30,7 +31,7 @@ abbrev pub numbered : ℕ → ℕ → List Call → Call → List ℕ
 numbered n kind cs c = answerLine n kind (numberGiven cs c)
 
 -- what the aircraft last said of AC and of ID, each with the number of plans since
-abbrev pub lastSaidLine : List Event → ℕ → List ℕ
+abbrev pub lastSaidLine : List Effect → ℕ → List ℕ
 lastSaidLine es a = reportLine (shown (lastSaid AC a es)) (shown (lastSaid ID a es))
 
 -- the number on the line of a record, behind the record's own number and its kind; what a taken reply adds to the line, and the lines below
@@ -52,28 +53,28 @@ pub record PlanPrinted (n kind : ℕ) (v : List Shown) (tag : ℕ) (text : List 
 
 -- a taken reply: the number of places where the message and the one corrected message differ, and s − t − 531: s is its tag minus the newest plan's, and
 -- t the start on the entry's line. The message is corrected over the address on that line, and its format is what the entry's request draws
-pub record ReplyPrinted (n kind : ℕ) (v : List Shown) (entry tag : ℕ) (msg marks text : List ℕ) : Type 0 where
+pub record ReplyPrinted (n kind : ℕ) (v : List Shown) (r : Received) (text : List ℕ) : Type 0 where
   pub output : List ℕ
-  pub text-is : text ≡ replyLine n kind (sizeOf (differing msg output)) (subℕ (startOf tag (knownBy v .tag)) (lineOf entry v .start + 531))
-  pub corrected : Corrected msg marks (lineOf entry v .address) (sizeOf (differing msg output)) output
-  pub format : formatOf output ≡ expected (getD (inForce (eventsBy v)) entry noAsk .request)
+  pub text-is : text
+      ≡ replyLine n kind (sizeOf (differing (r .message) output)) (subℕ (startOf (r .tag) (knownBy v .tag)) (lineOf (r .entry) v .start + 531))
+  pub corrected : Corrected (r .message) (r .marks) (lineOf (r .entry) v .address) (sizeOf (differing (r .message) output)) output
+  pub format : formatOf output ≡ expected (getD (inForce (eventsBy v)) (r .entry) noAsk .request)
 
 -- a reply that is refused prints its number alone
-pub record ReplyTold (n kind : ℕ) (cs : List Call) (v : List Shown) (entry tag : ℕ) (msg marks out text : List ℕ) : Type 0 where
-  pub taken : numberGiven cs (reply entry tag msg marks out) ≡ 0 → ReplyPrinted n kind v entry tag msg marks text
-  pub refused : (numberGiven cs (reply entry tag msg marks out) ≡ 0 → ⊥) → text ≡ numbered n kind cs (reply entry tag msg marks out)
+pub record ReplyTold (n kind : ℕ) (cs : List Call) (v : List Shown) (r : Received) (text : List ℕ) : Type 0 where
+  pub taken : numberGiven cs (reply r) ≡ 0 → ReplyPrinted n kind v r text
+  pub refused : (numberGiven cs (reply r) ≡ 0 → ⊥) → text ≡ numbered n kind cs (reply r)
 
 -- ---- the lines of record n for the call that it spells, after records that called cs and showed v
-abbrev pub Told : ℕ → ℕ → List Call → List Shown → Call → List ℕ → Type 0
-Told n kind cs v (setup h) text = text ≡ numbered n kind cs (setup h)
-Told n kind cs v (new a near far) text = text ≡ numbered n kind cs (new a near far)
-Told n kind cs v (remove a) text = text ≡ numbered n kind cs (remove a)
-Told n kind cs v (move a near far) text = text ≡ numbered n kind cs (move a near far)
-Told n kind cs v (request q) text = text ≡ numbered n kind cs (request q)
-Told n kind cs v (plan tag) text = PlanPrinted n kind v tag text
-Told n kind cs v (reply k tag msg marks out) text = ReplyTold n kind cs v k tag msg marks out text
-Told n kind cs v (report a) text =
+abbrev pub ToldBy : {c : Call} → Prints c → ℕ → ℕ → List Call → List Shown → List ℕ → Type 0
+ToldBy {c} plain n kind cs v text = text ≡ numbered n kind cs c
+ToldBy (ofPlan tag) n kind cs v text = PlanPrinted n kind v tag text
+ToldBy (ofReply r) n kind cs v text = ReplyTold n kind cs v r text
+ToldBy (ofReport a) n kind cs v text =
     text ≡ numbered n kind cs (report a) ++ pick (eqb (numberGiven cs (report a)) 0) (lastSaidLine (eventsBy v) a) []
+
+abbrev pub Told : ℕ → ℕ → List Call → List Shown → Call → List ℕ → Type 0
+Told n kind cs v c text = ToldBy (printsOf c) n kind cs v text
 
 -- the lines of record n by what stands at its place: 16 and 17 for what is no whole record
 abbrev pub Printed : List ℕ → ℕ → List Call → List Shown → Found → List ℕ → Type 0

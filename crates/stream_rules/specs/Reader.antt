@@ -8,6 +8,7 @@ use lib.ListN.{length, getD, take, drop}
 use Rattle.lists.specs.Lists.{pick, filter}
 use Rattle.text_rules.specs.Line.{linesOf, wordsOf}
 use Rattle.text_rules.specs.Number.{valueAfter}
+use Rattle.parity_rules.specs.Correction.{flippedBy}
 use Rattle.planner_rules.specs.declared.request.Request.{Request}
 use Rattle.planner_rules.specs.declared.request.Ask.{Ask}
 use Rattle.planner_rules.specs.declared.setup.Setup.{Setup}
@@ -18,10 +19,10 @@ use Rattle.reader_rules.specs.declared.reading.Found.{Found}
 use Rattle.reader_rules.specs.declared.reading.Found.the-variants.{End, Unknown, Cut, Whole}
 use Rattle.station_rules.specs.State.{noAsk, beforeSetup}
 use Rattle.station_rules.specs.Planning.{requestOf}
-use Rattle.station_rules.specs.Numbers.{matchesOf, correctedBy}
+use Rattle.station_rules.specs.Replies.{Received, matchesFor}
 use Rattle.station_rules.specs.History.{Call, setup, new, remove, move, request, plan, reply, report}
-use Rattle.station_rules.specs.Seen.{Event, inForce}
-use Rattle.stream_rules.specs.Spelled.{callOf, foundAfter, recordLines}
+use Rattle.station_rules.specs.Seen.{Effect, effectBy, seenAs, inForce}
+use Rattle.stream_rules.specs.Spelled.{callOf, Prints, plain, ofPlan, ofReply, ofReport, printsOf, foundAfter, recordLines}
 
 -- ---- what a record shows
 -- the numbers on each line of a text: its words, read as decimal numbers
@@ -37,15 +38,14 @@ abbrev pub entryOn : List ℕ → EntryShown
 entryOn l = record { unit = getD l 1 0; address = getD l 2 0; start = getD l 3 0 }
 
 -- "a plan adds lines"
+abbrev pub entriesBy : {c : Call} → Prints c → List (List ℕ) → List EntryShown
+entriesBy plain ls = []
+entriesBy (ofPlan tag) ls = map entryOn (drop 1 ls)
+entriesBy (ofReply r) ls = []
+entriesBy (ofReport a) ls = []
+
 abbrev pub entriesOn : Call → List (List ℕ) → List EntryShown
-entriesOn (setup h) ls = []
-entriesOn (new a near far) ls = []
-entriesOn (remove a) ls = []
-entriesOn (move a near far) ls = []
-entriesOn (request q) ls = []
-entriesOn (plan tag) ls = map entryOn (drop 1 ls)
-entriesOn (reply k tag msg marks out) ls = []
-entriesOn (report a) ls = []
+entriesOn c ls = entriesBy (printsOf c) ls
 
 -- of one record: the call that it spells, the answer on its line, and the lines of a plan's entries
 pub record Shown : Type 0 where
@@ -78,15 +78,14 @@ sixes [] = 0
 sixes (l ∷ ls) = let n = sixes ls in pick (eqb (length l) 6) (suc n) 0
 
 -- how many lines a record has: its own; "a plan adds lines"; "a taken report adds a line"
+abbrev pub countBy : {c : Call} → Prints c → List (List ℕ) → ℕ
+countBy plain ls = 1
+countBy (ofPlan tag) ls = suc (sixes (drop 1 ls))
+countBy (ofReply r) ls = 1
+countBy (ofReport a) ls = pick (eqb (answerOn ls) 0) 2 1
+
 abbrev pub countOn : Call → List (List ℕ) → ℕ
-countOn (setup h) ls = 1
-countOn (new a near far) ls = 1
-countOn (remove a) ls = 1
-countOn (move a near far) ls = 1
-countOn (request q) ls = 1
-countOn (plan tag) ls = suc (sixes (drop 1 ls))
-countOn (reply k tag msg marks out) ls = 1
-countOn (report a) ls = pick (eqb (answerOn ls) 0) 2 1
+countOn c ls = countBy (printsOf c) ls
 
 -- what was shown so far, and the lines left
 pub record Reading : Type 0 where
@@ -125,8 +124,8 @@ abbrev pub nothingBut : Setup → Known
 nothingBut h = record { setup = h; near = λ a. 0; far = λ a. 0; waiting = []; tag = 0; lines = [] }
 
 -- near and far of an address
-abbrev pub withEdges : ℕ → ℕ → ℕ → Known → Known
-withEdges b near far k =
+abbrev pub knowingEdges : ℕ → ℕ → ℕ → Known → Known
+knowingEdges b near far k =
     record {
       setup = k .setup;
       near = λ a. pick (eqb b a) near (k .near a);
@@ -136,8 +135,8 @@ withEdges b near far k =
       lines = k .lines;
     }
 
-abbrev pub withWaiting : List Request → Known → Known
-withWaiting w k = record { setup = k .setup; near = k .near; far = k .far; waiting = w; tag = k .tag; lines = k .lines }
+abbrev pub knowingWaiting : List Request → Known → Known
+knowingWaiting w k = record { setup = k .setup; near = k .near; far = k .far; waiting = w; tag = k .tag; lines = k .lines }
 
 -- what waits, with near and far of its target
 abbrev pub askKnown : Known → Request → Ask
@@ -151,20 +150,20 @@ abbrev pub boardBy : Known → List EntryShown → Board
 boardBy k ls = toldBy (k .setup .period) [] ls (askedKnown k)
 
 -- "the new plan replaces the old one"
-abbrev pub withPlan : ℕ → List EntryShown → Known → Known
-withPlan tag ls k =
+abbrev pub knowingPlan : ℕ → List EntryShown → Known → Known
+knowingPlan tag ls k =
     record { setup = k .setup; near = k .near; far = k .far; waiting = map requestOf (boardBy k ls .waiting); tag = tag; lines = ls }
 
 -- after a call that was done: a setup empties; a new target and a move tell near and far; "removal drops the target's requests"; a request waits as the
 -- youngest; a plan takes away those that its lines tell
 abbrev pub knownAfter : Call → List EntryShown → Known → Known
 knownAfter (setup h) ls k = nothingBut h
-knownAfter (new a near far) ls k = withEdges a near far k
-knownAfter (remove a) ls k = withWaiting (filter (λ (q : Request). not (eqb (q .address) a)) (k .waiting)) k
-knownAfter (move a near far) ls k = withEdges a near far k
-knownAfter (request q) ls k = withWaiting (k .waiting ++ (q ∷ [])) k
-knownAfter (plan tag) ls k = withPlan tag ls k
-knownAfter (reply e tag msg marks out) ls k = k
+knownAfter (new a near far) ls k = knowingEdges a near far k
+knownAfter (remove a) ls k = knowingWaiting (filter (λ (q : Request). not (eqb (q .address) a)) (k .waiting)) k
+knownAfter (move a near far) ls k = knowingEdges a near far k
+knownAfter (request q) ls k = knowingWaiting (k .waiting ++ (q ∷ [])) k
+knownAfter (plan tag) ls k = knowingPlan tag ls k
+knownAfter (reply r) ls k = k
 knownAfter (report a) ls k = k
 
 -- "a refusal .. changes nothing"; before the first record "L, R, limit, guarantees and ceilings are 0"
@@ -177,26 +176,13 @@ abbrev pub lineOf : ℕ → List Shown → EntryShown
 lineOf e v = getD (knownBy v .lines) e (record { unit = 0; address = 0; start = 0 })
 
 -- ---- what a caller of the station would have seen, found by the reader
-abbrev pub plainEvent : Call → ℕ → Event
-plainEvent c n = record { call = c; number = n; asks = []; output = [] }
-
 -- what the entries of a plan ask is told by its lines; the corrected message of a taken reply is the one that its marks allow over the entry's address
-abbrev pub eventFor : List Event → Known → Call → ℕ → List EntryShown → Event
-eventFor es k (setup h) n ls = plainEvent (setup h) n
-eventFor es k (new a near far) n ls = plainEvent (new a near far) n
-eventFor es k (remove a) n ls = plainEvent (remove a) n
-eventFor es k (move a near far) n ls = plainEvent (move a near far) n
-eventFor es k (request q) n ls = plainEvent (request q) n
-eventFor es k (plan tag) n ls = record { call = plan tag; number = n; asks = map askOf (boardBy k ls .placed); output = [] }
-eventFor es k (reply e tag msg marks out) n ls =
-    record {
-      call = reply e tag msg marks out;
-      number = n;
-      asks = [];
-      output = pick (eqb n 0) (correctedBy msg (matchesOf (getD (inForce es) e noAsk .request) msg marks)) out;
-    }
-eventFor es k (report a) n ls = plainEvent (report a) n
+abbrev pub correctedIn : List Effect → Received → List ℕ
+correctedIn es r = flippedBy (r .message) (matchesFor (getD (inForce es) (r .entry) noAsk .request) r) .output
 
-unfoldable pub eventsBy : List Shown → List Event
+abbrev pub eventFor : List Effect → Known → Call → ℕ → List EntryShown → Effect
+eventFor es k c n ls = seenAs n (effectBy (λ tag. map askOf (boardBy k ls .placed)) (correctedIn es) c)
+
+unfoldable pub eventsBy : List Shown → List Effect
 eventsBy [] = []
 eventsBy (x ∷ v) = eventFor (eventsBy v) (knownBy v) (x .call) (x .number) (x .entries) ∷ eventsBy v

@@ -11,17 +11,16 @@ use Rattle.reader_rules.specs.Records.{recordAt, nextPlace}
 use Rattle.reader_rules.specs.Answers.{foundNumber}
 use Rattle.station_rules.specs.declared.state.Station.{Station}
 use Rattle.station_rules.specs.State.{beforeSetup}
-use Rattle.station_rules.specs.Calls.{refused}
 use Rattle.stream_rules.specs.declared.run.Run.{Run}
-use Rattle.stream_rules.specs.Step.{Outcome, answered, obeyed}
+use Rattle.stream_rules.specs.Step.{Obeyed, refusedAt, obeyed}
 
 -- ---- what stands at a place of the stream
 -- as record n: nothing; "unknown record kind"; "record cut by the end of the stream"; what a whole record does
-unfoldable pub outcome : List ℕ → ℕ → Station → Found → Outcome
-outcome s n st End = record { lines = []; station = st }
-outcome s n st (Unknown b) = answered n b (refused (foundNumber (Unknown b)) st)
-outcome s n st (Cut kind) = answered n kind (refused (foundNumber (Cut kind)) st)
-outcome s n st (Whole kind body next) = obeyed s n kind body st
+unfoldable pub obeyedAt : List ℕ → ℕ → Station → Found → Obeyed
+obeyedAt s n st End = record { lines = []; station = st }
+obeyedAt s n st (Unknown b) = refusedAt n b (foundNumber (Unknown b)) st
+obeyedAt s n st (Cut kind) = refusedAt n kind (foundNumber (Cut kind)) st
+obeyedAt s n st (Whole kind body next) = obeyed s n kind body st
 
 -- "kinds 16 and 17 of refusal end the run", as the end of the stream does
 unfoldable pub goesOn : Found → Bool
@@ -36,7 +35,7 @@ unfoldable pub textFrom : ℕ → List ℕ → ℕ → ℕ → Station → List 
 textFrom zero s at n st = []
 textFrom (suc k) s at n st =
     let f = recordAt s at in
-    let o = outcome s n st f in
+    let o = obeyedAt s n st f in
     o .lines ++ pick (goesOn f) (textFrom k s (nextPlace f at) (n + 1) (o .station)) []
 
 -- "the first 64 KiB of standard input as the whole stream": every record has a byte of its own, so 65,537 are more than there are
@@ -49,18 +48,18 @@ unfoldable pub begun : Run
 begun = record { station = beforeSetup; at = 0; n = 1; more = true }
 
 -- what the next record does
-unfoldable pub outcomeNow : List ℕ → Run → Outcome
-outcomeNow s r = outcome s (r .n) (r .station) (recordAt s (r .at))
+unfoldable pub obeyedNow : List ℕ → Run → Obeyed
+obeyedNow s r = obeyedAt s (r .n) (r .station) (recordAt s (r .at))
 
 -- the lines of the next record; a run that has ended has none
 unfoldable pub linesNow : List ℕ → Run → List ℕ
-linesNow s r = pick (r .more) (outcomeNow s r .lines) []
+linesNow s r = pick (r .more) (obeyedNow s r .lines) []
 
 -- after the next record. Records are counted on 32 bits, which no stream of 65,536 bytes fills
 unfoldable pub stepped : List ℕ → Run → Run
 stepped s r =
     record {
-      station = outcomeNow s r .station;
+      station = obeyedNow s r .station;
       at = nextPlace (recordAt s (r .at)) (r .at);
       n = (r .n + 1) % 2 ^ 32;
       more = goesOn (recordAt s (r .at));

@@ -11,9 +11,10 @@ use Rattle.reader_rules.specs.declared.reading.Found.{Found}
 use Rattle.reader_rules.specs.declared.reading.Found.the-variants.{End, Unknown, Cut, Whole}
 use Rattle.reader_rules.specs.Records.{numberAt, recordAt, nextPlace}
 use Rattle.reader_rules.specs.Fields.{setupAt, edgesAt, addressAt, requestAt, tagAt}
+use Rattle.station_rules.specs.Replies.{Received, received}
 use Rattle.station_rules.specs.History.{Call, setup, new, remove, move, request, plan, reply, report, after}
 use Rattle.station_rules.specs.Numbers.{checks}
-use Rattle.stream_rules.specs.Run.{outcome, goesOn}
+use Rattle.stream_rules.specs.Run.{obeyedAt, goesOn}
 
 -- "the first 64 KiB of standard input as the whole stream"
 abbrev pub streamOf : List ℕ → List ℕ
@@ -26,7 +27,7 @@ bytesAt s at n = take n (drop at s)
 
 -- a reply: entry, tag 4, message and marks of m bytes each; it is lent as many zeros
 abbrev pub replyOf : List ℕ → ℕ → ℕ → Call
-replyOf s b m = reply (getD s b 0) (numberAt s (b + 1) 4) (bytesAt s (b + 5) m) (bytesAt s (b + 5 + m) m) (replicate m 0)
+replyOf s b m = reply (received (getD s b 0) (numberAt s (b + 1) 4) (bytesAt s (b + 5) m) (bytesAt s (b + 5 + m) m) (replicate m 0))
 
 -- the call that a whole record of a kind spells with its body at a place: 1 setup; 2 new target; 3 remove; 4 request; 5 plan; 6 short
 -- reply, of 7 bytes; 7 long reply, of 14; 8 report; 9 move. No record of another kind is whole
@@ -42,6 +43,24 @@ callOf s kind b =
     (pick (eqb kind 8) (report (addressAt s b))
     (move (edgesAt s b .address) (edgesAt s b .near) (edgesAt s b .far)))))))))
 
+-- ---- what a call prints beside its number: nothing; the entries of a plan; flips and delay of a reply; what a report tells
+pub data Prints : Call → Type 0 where
+  plain : {c : Call} → Prints c
+  ofPlan : (tag : ℕ) → Prints (plan tag)
+  ofReply : (r : Received) → Prints (reply r)
+  ofReport : (a : ℕ) → Prints (report a)
+
+abbrev pub printsOf : (c : Call) → Prints c
+printsOf (setup h) = plain
+printsOf (new a near far) = plain
+printsOf (remove a) = plain
+printsOf (move a near far) = plain
+printsOf (request q) = plain
+printsOf (plan tag) = ofPlan tag
+printsOf (reply r) = ofReply r
+printsOf (report a) = ofReport a
+
+-- ---- the calls of a stream
 -- one call more where a whole record stands; an unknown kind and a cut record call nothing
 unfoldable pub called : List ℕ → Found → List Call → List Call
 called s End cs = cs
@@ -77,7 +96,7 @@ numberGiven cs c = given (checks (after cs) c)
 -- ---- lines
 -- the lines of the record after the first k, which is number k + 1
 unfoldable pub recordLines : List ℕ → ℕ → List ℕ
-recordLines s k = outcome s (suc k) (after (callsOf s k)) (foundAfter s k) .lines
+recordLines s k = obeyedAt s (suc k) (after (callsOf s k)) (foundAfter s k) .lines
 
 -- the lines of the first k records
 unfoldable pub linesBefore : List ℕ → ℕ → List ℕ

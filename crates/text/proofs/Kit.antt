@@ -49,7 +49,8 @@ width-by w n k true e a b c =
     absurd (omega (arith, c h))
 width-by w n k false e a b c = omega (arith, ltb-false w k e)
 
-pub hex-of-kit : (w n k : ℕ) (t : List ℕ) → (n < 16 ^ w) × (1 ≤ w) × (w ≤ 16) → Fewest 16 (min (max w 1) 16) n k → take k t ≡ digits 16 k n → map upperOf (take k t) ≡ hexIn w n
+pub hex-of-kit : (w n k : ℕ) (t : List ℕ) → (n < 16 ^ w) × (1 ≤ w) × (w ≤ 16) → Fewest 16 (min (max w 1) 16) n k → take k t ≡ digits 16 k n
+    → map upperOf (take k t) ≡ hexIn w n
 hex-of-kit w n k t (a, b, c) f e =
     let m : min (max w 1) 16 ≡ w = omega arith in
     let g : Fewest 16 w n k = rw m at f in

@@ -4,3 +4,4 @@ mod Sizes
 mod HexLoops
 mod Values
 mod Nth
+mod Ends

@@ -2,7 +2,7 @@
 use Prim.Native.Nat.{ℕ, _+_, _-_, _*_, _^_, _≤_, _<_}
 use native.Mathlib.Numerals.{add-one}
 use native.Mathlib.Omega.{arith}
-use mathlib.Core.Path.{_≡_, refl, _∙_}
+use mathlib.Core.Path.{_≡_, refl, sym, _∙_}
 use mathlib.Core.List.{List, [], _∷_}
 use mathlib.Core.Bool.{true, false, _&&_, and-false}
 use lib.Seq.{drop-cons}
@@ -77,3 +77,31 @@ judged-big v w h = rw (le-ltb (valueAfter v w) (2 ^ 32) (omega (arith, grows v w
 pub judged-end : (w : List ℕ) (i v : ℕ) → length w ≤ i → v < 4294967296 → judged v (drop i w) ≡ Is v
 unfolding judged allDigits valueAfter
 judged-end w i v e h = rw (drop-of-length-le w e, lt-ltb v (2 ^ 32) h)
+
+-- ---- `search judging` tells what the word says, x, from what is still to be read
+module _ (most : ℕ) (w : List ℕ) where
+  pub says-none : length w ≡ 0 → Not ≡ numberIn most w
+  says-none h = sym (number-none most w h)
+
+  pub says-long : most < length w → Not ≡ numberIn most w
+  says-long h = sym (number-long most w h)
+
+module _ (w : List ℕ) (i v : ℕ) {x : Number} (e : judged v (drop i w) ≡ x) where
+  pub says-end : length w ≤ i → v < 4294967296 → Is v ≡ x
+  says-end h k = sym (judged-end w i v h k) ∙ e
+
+  module _ (h : i < length w) where
+    pub says-low : getD w i 0 < 48 → Not ≡ x
+    says-low a = sym (judged-low w i h v a) ∙ e
+
+    pub says-high : 57 < getD w i 0 → Not ≡ x
+    says-high a = sym (judged-high w i h v a) ∙ e
+
+    module _ (a : 48 ≤ getD w i 0) (b : getD w i 0 ≤ 57) where
+      pub says-more : judged (v * 10 + (getD w i 0 - 48)) (drop (i + 1) w) ≡ x
+      says-more = sym (judged-digit w i h v a b) ∙ e
+
+      pub says-big : 4294967295 < v * 10 + (getD w i 0 - 48) → Not ≡ x
+      says-big k = sym (judged-big _ (drop (i + 1) w) (omega arith)) ∙ says-more
+
+pub ruleset judging = (says-none, says-long, says-end, says-low, says-high, says-more, says-big)

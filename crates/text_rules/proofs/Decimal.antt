@@ -32,7 +32,8 @@ decimal-more (suc n) h = rw (le-ltb (suc n) 10 h, enough n (suc n / 10) (suc n /
 -- ---- how many digits
 
 -- a digit more in ten times the range
-by-test : (k n : ℕ) (b : Bool) → ltb n 10 ≡ b → n < 10 ^ suc (suc k) → ((m : ℕ) → m < 10 ^ suc k → length (decimal m) ≤ suc k) → length (decimal n) ≤ suc (suc k)
+by-test : (k n : ℕ) (b : Bool) → ltb n 10 ≡ b → n < 10 ^ suc (suc k) → ((m : ℕ) → m < 10 ^ suc k → length (decimal m) ≤ suc k)
+    → length (decimal n) ≤ suc (suc k)
 by-test k n true e h below = rw (decimal-small n (ltb-true n 10 e)) (omega arith)
 by-test k n false e h below =
     let p : 10 ^ suc (suc k) ≡ 10 ^ suc k * 10 = pow-suc 10 (suc k) in

@@ -2,12 +2,12 @@
 use Prim.Native.Nat.{ℕ, _/_, _%_, _≤_, _<_}
 use native.Mathlib.Omega.{arith}
 use mathlib.Core.Path.{_≡_, refl, sym, ap, _∙_}
-use mathlib.Core.Bool.{Bool, true, false, false≢true}
+use mathlib.Core.Bool.{Bool, true, false, not, false≢true}
 use mathlib.Core.List.{List, [], _∷_}
 use mathlib.Core.Option.{Option, some, none}
 use lib.ListN.{length, take}
 use lib.Dec.{ltb}
-use borrow.Author.Tests.{lt-ltb, le-ltb, le-leb, lt-leb, eq-eqb, ne-eqb, ltb-true, ltb-false}
+use borrow.Author.Tests.{lt-ltb, le-ltb, le-leb, lt-leb, eq-eqb, ne-eqb, ltb-true, ltb-false, not-false}
 use Rattle.text_rules.specs.Put.{laid}
 use Rattle.text_rules.specs.Line.{sameAs}
 use Rattle.text_rules.specs.Hex.{allHex, pairs, isHex, bytesIn, hexAnswer, filled, HexRead}
@@ -23,6 +23,9 @@ length-pairs (a ∷ b ∷ w) = omega (arith, length-pairs w)
 
 -- ---- the word as a whole
 
+pub all-told : (w : List ℕ) {r : Bool} → r ≡ allHex w → not r ≡ false → allHex w ≡ true
+all-told w {r} e h = sym e ∙ not-false r h
+
 module _ (w : List ℕ) where
   pub hex-empty : length w ≡ 0 → isHex w ≡ false
   unfolding isHex
@@ -37,9 +40,9 @@ module _ (w : List ℕ) where
     unfolding isHex
     hex-odd h = rw (lt-ltb 0 (length w) (omega arith), le-leb (length w) 64 b, ne-eqb (length w % 2) 0 h)
 
-    pub hex-even : length w % 2 ≡ 0 → isHex w ≡ allHex w
+    pub hex-even : {r v : Bool} → length w % 2 ≡ 0 → r ≡ allHex w → r ≡ v → isHex w ≡ v
     unfolding isHex
-    hex-even h = rw (lt-ltb 0 (length w) (omega arith), le-leb (length w) 64 b, eq-eqb (length w % 2) 0 h)
+    hex-even h e k = rw (lt-ltb 0 (length w) (omega arith), le-leb (length w) 64 b, eq-eqb (length w % 2) 0 h) (sym e ∙ k)
 
   module _ (l : List ℕ) where
     pub read-dash : sameAs w (45 ∷ []) ≡ true → HexRead w l l (Bytes 0)
@@ -53,6 +56,9 @@ module _ (w : List ℕ) where
     pub read-bytes : {m : List ℕ} → sameAs w (45 ∷ []) ≡ false → isHex w ≡ true → m ≡ laid (pairs w) 0 l → HexRead w l m (Bytes (length w / 2))
     unfolding bytesIn hexAnswer filled
     read-bytes d h e = record { answer = rw (d, h, length-pairs w); buffer = rw (d, h) e }
+
+-- `search reading` finds what a word says from the tests that it passed
+pub ruleset reading = (hex-empty, hex-long, hex-odd, hex-even, read-dash, read-not, read-bytes)
 
 -- ---- what a caller knows of the answer
 

@@ -5,8 +5,10 @@ use native.Mathlib.Numerals.{add-one}
 use native.Mathlib.Omega.{arith, min-cases}
 use mathlib.Core.Path.{_≡_, refl, sym, ap, _∙_}
 use mathlib.Core.List.{List, [], _∷_, _++_}
-use lib.Seq.{sets, sets-eq, set-out, take-at, take-suc}
+use mathlib.Core.Bool.{Bool, true, false}
+use lib.Seq.{sets, sets-eq, set-out, take-at, take-suc, take-all}
 use lib.ListN.{length, getD, set, take, drop, length-set, length-append, length-take}
+use Rattle.lists.specs.Lists.{pick}
 use Rattle.text_rules.specs.Put.{laid, Put}
 
 pub length-laid : (t : List ℕ) (at : ℕ) (l : List ℕ) → length (laid t at l) ≡ length l
@@ -68,11 +70,34 @@ put-then {a} {b} {at} {r} {q} {l} {m} {o} x y =
       text = y .text ∙ ap (λ (k : ℕ). laid b k m) e ∙ laid-clamped b (at + length a) m ∙ ap (laid b (at + length a)) (x .text) ∙ sym (laid-append a b at l);
     }
 
+-- ---- `search laying` puts a text together from what the calls put
+
+-- the text of a value by another name, and of a value whose case is known
+pub put-as : {A : Type 0} (t : A → List ℕ) {x y : A} {at r : ℕ} {l m : List ℕ} → x ≡ y → Put (t x) at l m r → Put (t y) at l m r
+put-as t e p = rw e at p
+
+pub put-case : {A : Type 0} (t : A → List ℕ) {x y : A} {at r : ℕ} {l m : List ℕ} → x ≡ y → Put (t y) at l m r → Put (t x) at l m r
+put-case t e p = rw e p
+
+-- one of two texts, by a test that is known
+module _ (x y : List ℕ) {b : Bool} {at r : ℕ} {l m : List ℕ} where
+  pub put-taken : b ≡ true → Put x at l m r → Put (pick b x y) at l m r
+  put-taken e p = rw e p
+
+  pub put-left : b ≡ false → Put y at l m r → Put (pick b x y) at l m r
+  put-left e p = rw e p
+
+pub ruleset laying = (put-then, put-taken, put-left)
+
 -- ---- bytes put one by one
 
--- a byte more at the end of the front
-pub front-more : (t : List ℕ) (i : ℕ) → i < length t → take (i + 1) t ≡ take i t ++ (getD t i 0 ∷ [])
-front-more t i h = rw add-one (take-suc t i 0 h)
+-- a byte more at the end of the front, and all of them
+module _ (t : List ℕ) (i : ℕ) {at r : ℕ} {l m : List ℕ} (p : Put (take i t) at l m r) where
+  pub front-more : {q : ℕ} {o : List ℕ} → Put (getD t i 0 ∷ []) r m o q → i < length t → Put (take (i + 1) t) at l o q
+  front-more x h = rw (add-one, take-suc t i 0 h) (put-then p x)
+
+  pub front-all : length t ≤ i → Put t at l m r
+  front-all h = rw (take-all i t h) at p
 
 -- ---- parts put one after the other: `rest` is what is still to be put
 

@@ -127,7 +127,8 @@ unfoldable pub visited : ℕ → List ℕ → ℕ → List (List ℕ)
 visited zero s at = []
 visited (suc n) s at = pick (ltb at (length s)) (lineAt s at ∷ visited n s (lineEnd s at + 1)) []
 
-visit-by : (n : ℕ) (s : List ℕ) (at : ℕ) (v : Bool) → ltb at (length s) ≡ v → (at < length s → visited n s (lineEnd s at + 1) ≡ linesOf (drop (lineEnd s at + 1) s)) → visited (suc n) s at ≡ linesOf (drop at s)
+visit-by : (n : ℕ) (s : List ℕ) (at : ℕ) (v : Bool) → ltb at (length s) ≡ v
+    → (at < length s → visited n s (lineEnd s at + 1) ≡ linesOf (drop (lineEnd s at + 1) s)) → visited (suc n) s at ≡ linesOf (drop at s)
 unfolding visited
 visit-by n s at true e ih = let h : at < length s = ltb-true at (length s) e in rw (e, ih h) (sym (lines-next s at h))
 visit-by n s at false e ih = rw e (sym (lines-end s at (ltb-false at (length s) e)))

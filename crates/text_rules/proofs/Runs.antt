@@ -27,7 +27,8 @@ module _ (p : ℕ → Bool) where
   front-fits [] = omega arith
   front-fits (b ∷ t) = fits-by b t (p b) refl (front-fits t)
 
-  inside-by : (b : ℕ) (t : List ℕ) (k : ℕ) (v : Bool) → p b ≡ v → ((j : ℕ) → j < front p t → p (getD t j 0) ≡ true) → k < front p (b ∷ t) → p (getD (b ∷ t) k 0) ≡ true
+  inside-by : (b : ℕ) (t : List ℕ) (k : ℕ) (v : Bool) → p b ≡ v → ((j : ℕ) → j < front p t → p (getD t j 0) ≡ true) → k < front p (b ∷ t)
+      → p (getD (b ∷ t) k 0) ≡ true
   inside-by b t zero true e ih h = e
   inside-by b t (suc k) true e ih h = ih k (omega (arith, front-more b t e))
   inside-by b t k false e ih h = absurd (omega (arith, front-stop b t e))
@@ -37,7 +38,8 @@ module _ (p : ℕ → Bool) where
   front-inside [] k h = absurd (omega arith)
   front-inside (b ∷ t) k h = inside-by b t k (p b) refl (front-inside t) h
 
-  end-by : (b : ℕ) (t : List ℕ) (v : Bool) → p b ≡ v → (front p t < length t → p (getD t (front p t) 0) ≡ false) → front p (b ∷ t) < length (b ∷ t) → p (getD (b ∷ t) (front p (b ∷ t)) 0) ≡ false
+  end-by : (b : ℕ) (t : List ℕ) (v : Bool) → p b ≡ v → (front p t < length t → p (getD t (front p t) 0) ≡ false) → front p (b ∷ t) < length (b ∷ t)
+      → p (getD (b ∷ t) (front p (b ∷ t)) 0) ≡ false
   end-by b t true e ih h = rw (front-more b t e) (ih (omega (arith, front-more b t e)))
   end-by b t false e ih h = rw (front-stop b t e) e
 

@@ -22,7 +22,8 @@ words-blank : (b : ℕ) (t : List ℕ) → blank b ≡ true → wordsOf (b ∷ t
 unfolding wordsOf full
 words-blank b t h = rw (part-ends blank inWord in-word b t h)
 
-skip-by : (b : ℕ) (t : List ℕ) (v : Bool) → blank b ≡ v → wordsOf t ≡ wordsOf (drop (front blank t) t) → wordsOf (b ∷ t) ≡ wordsOf (drop (front blank (b ∷ t)) (b ∷ t))
+skip-by : (b : ℕ) (t : List ℕ) (v : Bool) → blank b ≡ v → wordsOf t ≡ wordsOf (drop (front blank t) t)
+    → wordsOf (b ∷ t) ≡ wordsOf (drop (front blank (b ∷ t)) (b ∷ t))
 skip-by b t true e h = rw (front-more blank b t e) (words-blank b t e ∙ h)
 skip-by b t false e h = rw (front-stop blank b t e)
 
@@ -47,7 +48,8 @@ first-by : (b : ℕ) (t : List ℕ) (v : Bool) → blank b ≡ v → 0 < front i
 unfolding wordsOf full
 first-by b t true e h = absurd (omega (arith, front-stop inWord b t (in-word b ∙ ap not e)))
 first-by b t false e h =
-    rw (part-first blank inWord in-word b t, front-more inWord b t (in-word b ∙ ap not e)) (ap (λ (ws : List (List ℕ)). (b ∷ take (front inWord t) t) ∷ ws) (sym (words-past t)))
+    rw (part-first blank inWord in-word b t, front-more inWord b t (in-word b ∙ ap not e))
+    (ap (λ (ws : List (List ℕ)). (b ∷ take (front inWord t) t) ∷ ws) (sym (words-past t)))
 
 words-first : (t : List ℕ) → 0 < front inWord t → wordsOf t ≡ take (front inWord t) t ∷ wordsOf (drop (front inWord t) t)
 unfolding front
@@ -105,7 +107,8 @@ module _ (line : List ℕ) (at : ℕ) where
       let d : wordAt line at .to - f ≡ n = omega arith in
       words-from ∙ rw (d, e, ← drop-drop n f line) (words-first (drop f line) (omega arith))
 
-  end-by : (v : Bool) → ltb (wordAt line at .from) (length line) ≡ v → wordAt line at .to ≤ wordAt line at .from → wordsOf (drop (wordAt line at .from) line) ≡ []
+  end-by : (v : Bool) → ltb (wordAt line at .from) (length line) ≡ v → wordAt line at .to ≤ wordAt line at .from
+      → wordsOf (drop (wordAt line at .from) line) ≡ []
   unfolding wordsOf parts full
   end-by true e h =
       let f : ℕ = wordAt line at .from in

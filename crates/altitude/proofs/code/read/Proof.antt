@@ -99,7 +99,8 @@ returns-6 c =
     let up : 500 * n .result + 100 * h .result ≡ 500 * fiveHundreds ac + 100 * hundreds (fiveHundreds ac) (group ac) = simp (h .ensures .0, n .ensures .0, p .pattern .ensures .0) in
     altitude-told ac _
     (ap Feet (minus-kept (500 * n .result + 100 * h .result) 1300 (omega arith) (omega arith) (c .signed2 .result) (c .signed2 .ensures) ∙ ap (λ (k : ℕ). subℕ k 1300) up)
-    ∙ says-by100 ac (in-range (e .before .before)) (not-zero (e .before .before)) (not-metric e) (not-25 (p .before)) (λ z. c .before .before .before .if5 .left (p .pattern .ensures .0 ∙ z)))
+    ∙ says-by100 ac (in-range (e .before .before)) (not-zero (e .before .before)) (not-metric e) (not-25 (p .before))
+    (λ z. c .before .before .before .if5 .left (p .pattern .ensures .0 ∙ z)))
 
 pub read-spec : {M : Type 1} → statement M
 read-spec =

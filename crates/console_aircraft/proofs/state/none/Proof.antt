@@ -1,5 +1,6 @@
 -- `none` has the transponder of a making that is refused.
 use mathlib.Core.Path.{ap}
+use Rattle.lists.specs.Checks.{checked}
 use Rattle.model_rules.specs.declared.state.Made.{Made}
 use Rattle.model_rules.specs.Calls.{makeRanged, making}
 use mathlib.Core.Bool.{false}
@@ -12,7 +13,7 @@ make-requires : tie.Need-make-requires
 make-requires c κs = search needs
 
 returns : tie.Need-returns
-unfolding unmade making makeRanged
+unfolding checked unmade making makeRanged
 returns c = ap (λ (m : Made). record { made = false; transponder = m .transponder }) (c .before .make .ensures)
 
 pub none-spec : {M : Type 1} → statement M

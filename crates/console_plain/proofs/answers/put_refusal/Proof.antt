@@ -1,22 +1,16 @@
 -- `put_refusal` lays the number and the line's end.
+use borrow.Author.Needs.{needs}
 use Rattle.text_rules.proofs.Laid.{put-then}
 use Rattle.console_rules.specs.Texts.{refusalText}
-use borrow.Author.Needs.{needs}
 use Rattle.console_plain.proofs.answers.put_refusal.Statement.{statement}
 use Rattle.console_plain.proofs.answers.put_refusal.Tie as tie
 
-put-decimal-requires : tie.Need-put-decimal-requires
-put-decimal-requires c κs = search needs
-
-put-byte-requires : tie.Need-put-byte-requires
-put-byte-requires c κs = search needs
-
-same-length : tie.Need-same-length
-same-length c = search needs
-
-returns : tie.Need-returns
-unfolding refusalText
-returns c = put-then (c .before .before .before .before .before .before .put-decimal .ensures) (c .before .before .put-byte .ensures)
-
 pub put-refusal-spec : {M : Type 1} → statement M
-put-refusal-spec = tie.close (tie.spec put-decimal-requires put-byte-requires same-length returns)
+unfolding refusalText
+put-refusal-spec =
+    tie.close
+    (tie.spec
+    (λ c κs. search needs)
+    (λ c κs. search needs)
+    (λ c. search needs)
+    (λ c. search put-then))

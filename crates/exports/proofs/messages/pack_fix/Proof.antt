@@ -45,4 +45,6 @@ returns-6 : tie.Need-returns-6
 returns-6 c = rw (c .enum-told5 .given .1) (record { number = refl; flips = refl })
 
 pub pack-fix-spec : {M : Type 1} → statement M
-pack-fix-spec = tie.close (tie.spec enum-known-f cast-result enum-told enum-told-2 enum-told-3 enum-told-4 enum-told-5 returns returns-2 returns-3 returns-4 returns-5 returns-6)
+pack-fix-spec =
+    tie.close
+    (tie.spec enum-known-f cast-result enum-told enum-told-2 enum-told-3 enum-told-4 enum-told-5 returns returns-2 returns-3 returns-4 returns-5 returns-6)

@@ -23,7 +23,8 @@ numbers-of-requires c κs = search needs
 returns : tie.Need-returns
 returns c = let m = c .before .before .before in
     let s = m .before .before .before .before in
-    let e = ap (λ (x : Entry). inSlots (plan (s .args .j .setup) (asksOf (s .args .j .asks))) (replicate 128 x) (s .args .j .asks .list)) (m .before .no-entry .ensures) in
+    let e = ap (λ (x : Entry). inSlots (plan (s .args .j .setup) (asksOf (s .args .j .asks))) (replicate 128 x) (s .args .j .asks .list))
+    (m .before .no-entry .ensures) in
     rw (c .before .starts-of .ensures, c .numbers-of .ensures) (ap rowsOf (m .make-plan .ensures ∙ e))
 
 pub jerungkal-plan-spec : {M : Type 1} → statement M

@@ -44,7 +44,8 @@ loop-again c = let l = c .before .before in
 
 returns : tie.Need-returns Inv-loop μ-loop
 returns c = let l = c .before in
-    copied-all (λ (e : Entry). e .start) (l .before .args .t1) _ (l .loop .i) (l .loop .r) (omega (arith, l .loop .inv .2)) (omega (arith, l .loop .inv .2, l .loop .inv .3)) (l .loop .inv .1)
+    copied-all (λ (e : Entry). e .start) (l .before .args .t1) _ (l .loop .i) (l .loop .r) (omega (arith, l .loop .inv .2))
+    (omega (arith, l .loop .inv .2, l .loop .inv .3)) (l .loop .inv .1)
 
 pub starts-of-spec : {M : Type 1} → statement M
 starts-of-spec =

@@ -17,7 +17,9 @@ surveillance-requires : tie.Need-surveillance-requires
 surveillance-requires c κs = search needs
 
 returns-3 : tie.Need-returns-3
-returns-3 c = simp (← c .before .before .before .length-of .ensures, eq-eqb _ _ (c .before .before .if1 .left), ne-eqb _ _ (c .before .if2 .left)) (c .surveillance .ensures)
+returns-3 c =
+    simp (← c .before .before .before .length-of .ensures, eq-eqb _ _ (c .before .before .if1 .left), ne-eqb _ _ (c .before .if2 .left))
+    (c .surveillance .ensures)
 
 pub listed-spec : {M : Type 1} → statement M
 listed-spec =

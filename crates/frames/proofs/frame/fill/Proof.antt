@@ -6,13 +6,13 @@ use native.Mathlib.Omega.{arith}
 use lib.ListN.{length}
 use lib.Seq.{sets, length-sets}
 use Rattle.frames_rules.specs.Bytes.{bytesOf}
-use Rattle.frames_rules.proofs.Laying.{whole-least, fill-short, fill-long}
+use Rattle.frames_rules.proofs.Laying.{at-least-seven, fill-short, fill-long}
 use borrow.Author.Needs.{needs}
 use Rattle.frames.proofs.frame.fill.Statement.{statement}
 use Rattle.frames.proofs.frame.fill.Tie as tie
 
 put-requires : tie.Need-put-requires
-put-requires c κs = (omega arith, omega (arith, whole-least (length (c .before .before .args .out .now)) (c .before .before .pre)))
+put-requires c κs = (omega arith, omega (arith, at-least-seven (length (c .before .before .args .out .now)) (c .before .before .pre)))
 
 same-length : tie.Need-same-length
 same-length c = search needs
@@ -36,7 +36,8 @@ returns-2 c =
     let e = c .before .before .before .before .before .before .before .put .ensures in
     c .before .before .put2 .ensures
     ∙ ap (λ (l : List ℕ). sets l 4 (bytesOf 7 (a .mid))) e
-    ∙ fill-long (a .out .now) (a .head) (a .mid) (sym (length-sets (a .out .now) 0 (bytesOf 4 (a .head))) ∙ sym (ap length e) ∙ c .before .before .before .before .if1 .left)
+    ∙ fill-long (a .out .now) (a .head) (a .mid)
+    (sym (length-sets (a .out .now) 0 (bytesOf 4 (a .head))) ∙ sym (ap length e) ∙ c .before .before .before .before .if1 .left)
 
 pub fill-spec : {M : Type 1} → statement M
 fill-spec =

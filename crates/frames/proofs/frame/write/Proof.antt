@@ -1,6 +1,6 @@
 -- `frames::frame::write` meets its contract: the fields, then the parity.
 use mathlib.Core.Path.{ap, _∙_}
-use Rattle.parity_rules.specs.Messages.{whole}
+use Rattle.parity_rules.specs.Messages.{sevenOrFourteen}
 use Rattle.frames_rules.proofs.Laying.{filled-length, write-law}
 use borrow.Author.Needs.{needs}
 use Rattle.frames.proofs.frame.write.Statement.{statement}
@@ -12,7 +12,9 @@ fill-requires c κs = search needs
 seal-requires : tie.Need-seal-requires
 seal-requires c κs =
     let a = c .before .before .before .before .before .before .args in
-    ap whole (filled-length (a .out .now) (a .head) (a .mid) _ (c .before .before .before .before .before .before .pre) (c .before .before .before .fill .ensures)) ∙ c .before .before .before .before .before .before .pre
+    ap sevenOrFourteen
+    (filled-length (a .out .now) (a .head) (a .mid) _ (c .before .before .before .before .before .before .pre) (c .before .before .before .fill .ensures))
+    ∙ c .before .before .before .before .before .before .pre
 
 same-length : tie.Need-same-length
 same-length c = search needs
@@ -20,7 +22,8 @@ same-length c = search needs
 returns : tie.Need-returns
 returns c =
     let a = c .before .before .before .before .before .before .before .before .before .args in
-    write-law (a .out .now) (a .head) (a .mid) _ (c .before .before .before .before .before .before .before .before .before .pre) (c .before .before .before .before .before .before .fill .ensures) _ (a .overlay) (c .before .before .seal .ensures)
+    write-law (a .out .now) (a .head) (a .mid) _ (c .before .before .before .before .before .before .before .before .before .pre)
+    (c .before .before .before .before .before .before .fill .ensures) _ (a .overlay) (c .before .before .seal .ensures)
 
 pub write-spec : {M : Type 1} → statement M
 write-spec = tie.close (tie.spec fill-requires seal-requires same-length returns)

@@ -9,29 +9,29 @@ returns : tie.Need-returns
 unfolding midOf
 returns c = simp (ne-eqb _ _ (c .if1 .taken))
 
-sub-number-of : tie.Need-sub-number-of
-sub-number-of c = search needs
+sub-number-in : tie.Need-sub-number-in
+sub-number-in c = search needs
 
-part-number-of-start : tie.Need-part-number-of-start
-part-number-of-start c = search needs
+part-number-in-start : tie.Need-part-number-in-start
+part-number-in-start c = search needs
 
-part-number-of-end : tie.Need-part-number-of-end
-part-number-of-end c = search needs
+part-number-in-end : tie.Need-part-number-in-end
+part-number-in-end c = search needs
 
-number-of-requires : tie.Need-number-of-requires
-number-of-requires c κs = search needs
+number-in-requires : tie.Need-number-in-requires
+number-in-requires c κs = search needs
 
 returns-2 : tie.Need-returns-2
 unfolding midOf
-returns-2 c = simp (eq-eqb _ _ (c .before .before .if1 .left)) (c .number-of .ensures .0)
+returns-2 c = simp (eq-eqb _ _ (c .before .before .if1 .left)) (c .number-in .ensures .0)
 
 pub mid-of-spec : {M : Type 1} → statement M
 mid-of-spec =
     tie.close
     (tie.spec
     returns
-    sub-number-of
-    part-number-of-start
-    part-number-of-end
-    number-of-requires
+    sub-number-in
+    part-number-in-start
+    part-number-in-end
+    number-in-requires
     returns-2)

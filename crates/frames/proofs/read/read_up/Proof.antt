@@ -1,82 +1,38 @@
--- `frames::read::read_up` meets its contract: each refusal by its test, then the fields.
-use mathlib.Core.Path.{_≡_, sym, ap, ap₂, _∙_}
+-- `frames::read::read_up` meets its contract: its lines one after the other, then the fields.
+use mathlib.Core.Path.{_≡_, sym, _∙_}
 use mathlib.Core.Bool.{true}
-use Prim.Native.Nat.{ℕ}
 use lib.ListN.{length}
-use borrow.Author.Tests.{not-true, not-false}
-use Rattle.parity_rules.specs.Messages.{whole}
-use Rattle.frames_rules.specs.Fields.{valueAt, atUF}
-use Rattle.frames_rules.specs.Formats.{listed}
-use Rattle.frames_rules.specs.Reading.{formatOf, allCallRead, selectiveRead}
-use Rattle.frames_rules.proofs.Judging.{reads-length, reads-format, reads-eleven, reads-others, same}
 use borrow.Author.Needs.{needs}
+use borrow.Author.Tests.{not-false}
+use Rattle.lists.specs.Answers.{refusedBy}
+use Rattle.lists.proofs.Checks.{all, stop, end}
+use Rattle.parity_rules.specs.Messages.{sevenOrFourteen}
+use Rattle.frames_rules.specs.Reading.{readAs, allCallRead, selectiveRead}
+use Rattle.frames_rules.proofs.Lines.{lines, read-eleven, read-others}
 use Rattle.frames.proofs.read.read_up.Statement.{statement}
 use Rattle.frames.proofs.read.read_up.Tie as tie
 
--- the length, and then the format, once they are judged
-measured : (c : tie.Else1) → whole (length (c .before .before .before .args .msg .now)) ≡ true
-measured c = sym (c .before .whole .ensures) ∙ not-false _ (c .if1 .left)
-
-known : (c : tie.Else2) → let m = c .before .before .before .before .before .before .args .msg .now in listed (formatOf m) (length m) ≡ true
-known c =
-    let m = c .before .before .before .before .before .before .args .msg .now in
-    ap (λ (h : ℕ). listed (valueAt atUF h) (length m)) (sym (c .before .before .head-of .ensures)) ∙ sym (c .before .listed .ensures) ∙ not-false _ (c .if2 .left)
-
-whole-requires : tie.Need-whole-requires
-whole-requires c κs = search needs
-
-returns : tie.Need-returns
-returns c = sym (reads-length allCallRead selectiveRead _ (sym (c .before .whole .ensures) ∙ not-true _ (c .if1 .taken)))
-
-head-of-requires : tie.Need-head-of-requires
-head-of-requires c κs = measured c
-
-listed-requires : tie.Need-listed-requires
-listed-requires c κs = search needs
-
-returns-2 : tie.Need-returns-2
-returns-2 c =
-    let m = c .before .before .before .before .before .before .args .msg .now in
-    sym (reads-format allCallRead selectiveRead m (measured (c .before .before .before)) (ap (λ (h : ℕ). listed (valueAt atUF h) (length m)) (sym (c .before .before .head-of .ensures)) ∙ sym (c .before .listed .ensures) ∙ not-true _ (c .if2 .taken)))
-
-remainder-of-requires : tie.Need-remainder-of-requires
-remainder-of-requires c κs = measured (c .before .before .before)
-
-all-call-requires : tie.Need-all-call-requires
-all-call-requires c κs = search needs
-
-returns-3 : tie.Need-returns-3
-returns-3 c =
-    let d = c .before .before .before in
-    c .all-call .ensures
-    ∙ ap₂ allCallRead (d .before .before .head-of .ensures) (c .before .before .remainder-of .ensures .0)
-    ∙ sym (reads-eleven allCallRead selectiveRead _ (measured (d .before .before .before)) (known d) (ap (valueAt atUF) (sym (d .before .before .head-of .ensures)) ∙ c .before .if3 .taken))
-
-mid-of-requires : tie.Need-mid-of-requires
-mid-of-requires c κs = search needs
-
-selective-requires : tie.Need-selective-requires
-selective-requires c κs = search needs
-
-returns-4 : tie.Need-returns-4
-returns-4 c =
-    let d = c .before .before .before .before in
-    c .selective .ensures
-    ∙ same selectiveRead _ _ _ _ _ _ (d .before .before .head-of .ensures) (c .before .mid-of .ensures) (c .before .before .before .remainder-of .ensures .0)
-    ∙ sym (reads-others allCallRead selectiveRead _ (measured (d .before .before .before)) (known d) (λ q. c .before .before .if3 .left (ap (valueAt atUF) (d .before .before .head-of .ensures) ∙ q)))
+-- the length once it is judged
+measured : (c : tie.Else1) → sevenOrFourteen (length (c .before .before .before .args .msg .now)) ≡ true
+measured c = sym (c .before .seven-or-fourteen .ensures) ∙ not-false _ (c .if1 .left)
 
 pub read-up-spec : {M : Type 1} → statement M
+unfolding readAs
 read-up-spec =
     tie.close
     (tie.spec
-    whole-requires
-    returns
-    head-of-requires
-    listed-requires
-    returns-2
-    remainder-of-requires
-    all-call-requires
-    returns-3
-    mid-of-requires
-    selective-requires
-    returns-4)
+    (λ c κs. search needs)
+    (λ c. stop refusedBy _ 1 all (search lines depth 12) (search lines))
+    (λ c κs. measured (search needs))
+    (λ c κs. search needs)
+    (λ c. stop refusedBy _ 14 all (search lines depth 12) (search lines))
+    (λ c κs. measured (search needs))
+    (λ c κs. search needs)
+    (λ c.
+    read-eleven allCallRead selectiveRead _ (c .all-call .ensures) (search needs) (search needs) (search needs)
+    ∙ end refusedBy _ all (search lines depth 12))
+    (λ c κs. search needs)
+    (λ c κs. search needs)
+    (λ c.
+    read-others allCallRead selectiveRead _ (c .selective .ensures) (search needs) (search needs) (search needs) (search needs)
+    ∙ end refusedBy _ all (search lines depth 12)))

@@ -1,52 +1,29 @@
 -- `model::making::make` meets its contract: by the ranges.
-use borrow.Author.Tests.{not-true, not-false}
-use mathlib.Core.Path.{sym, _∙_}
+use Prim.Native.Nat.{_≤_}
 use native.Mathlib.Omega.{arith}
-use Rattle.model_rules.specs.Calls.{making}
-use Rattle.model.proofs.Slots.{make-in}
 use borrow.Author.Needs.{needs}
+use borrow.Author.Tests.{not-false}
+use Rattle.lists.proofs.Checks.{all, stop, end, tests}
+use Rattle.model_rules.specs.Calls.{notMade, making}
+use Rattle.model.proofs.Slots.{make-in}
 use Rattle.model.proofs.making.make.Statement.{statement}
 use Rattle.model.proofs.making.make.Tie as tie
 
-make-ranged-requires : tie.Need-make-ranged-requires
-make-ranged-requires c κs = search needs
-
-newborn-requires : tie.Need-newborn-requires
-newborn-requires c κs = search needs
-
-returns : tie.Need-returns
-unfolding making
-returns c = simp (sym (c .before .before .make-ranged .ensures) ∙ not-true _ (c .before .if1 .taken), c .newborn .ensures)
-
-cast-newborn : tie.Need-cast-newborn
-cast-newborn c = let a = c .before .before .args in let r = make-in (a .address) (a .ac) (a .id) (a .fs) (a .ca) (sym (c .before .make-ranged .ensures) ∙ not-false _ (c .if1 .left)) in omega arith
-
-cast-newborn-2 : tie.Need-cast-newborn-2
-cast-newborn-2 c = let a = c .before .before .args in let r = make-in (a .address) (a .ac) (a .id) (a .fs) (a .ca) (sym (c .before .make-ranged .ensures) ∙ not-false _ (c .if1 .left)) in omega arith
-
-cast-newborn-3 : tie.Need-cast-newborn-3
-cast-newborn-3 c = let a = c .before .before .args in let r = make-in (a .address) (a .ac) (a .id) (a .fs) (a .ca) (sym (c .before .make-ranged .ensures) ∙ not-false _ (c .if1 .left)) in omega arith
-
-cast-newborn-4 : tie.Need-cast-newborn-4
-cast-newborn-4 c = let a = c .before .before .args in let r = make-in (a .address) (a .ac) (a .id) (a .fs) (a .ca) (sym (c .before .make-ranged .ensures) ∙ not-false _ (c .if1 .left)) in omega arith
-
-newborn-requires-2 : tie.Need-newborn-requires-2
-newborn-requires-2 c κs = search needs
-
-returns-2 : tie.Need-returns-2
-unfolding making
-returns-2 c = simp (sym (c .before .before .make-ranged .ensures) ∙ not-false _ (c .before .if1 .left), c .newborn2 .ensures)
+-- the numbers are in their ranges
+ranged : (c : tie.Else1) → let a = c .before .before .args in (a .ac ≤ 8191) × (a .id ≤ 8191) × (a .fs ≤ 7) × (a .ca ≤ 7)
+ranged c = let a = c .before .before .args in make-in (a .address) (a .ac) (a .id) (a .fs) (a .ca) (search (tests, not-false))
 
 pub make-spec : {M : Type 1} → statement M
+unfolding making
 make-spec =
     tie.close
     (tie.spec
-    make-ranged-requires
-    newborn-requires
-    returns
-    cast-newborn
-    cast-newborn-2
-    cast-newborn-3
-    cast-newborn-4
-    newborn-requires-2
-    returns-2)
+    (λ c κs. search needs)
+    (λ c κs. search needs)
+    (λ c. rw (c .newborn .ensures) (stop notMade _ 2 all (search tests depth 12) (search tests)))
+    (λ c. let r = ranged c in omega arith)
+    (λ c. let r = ranged c in omega arith)
+    (λ c. let r = ranged c in omega arith)
+    (λ c. let r = ranged c in omega arith)
+    (λ c κs. search needs)
+    (λ c. rw (c .newborn2 .ensures) (end notMade _ all (search tests depth 12))))

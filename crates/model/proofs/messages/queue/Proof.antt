@@ -1,29 +1,28 @@
--- `model::messages::queue` meets its contract: test by test.
-use native.Mathlib.Omega.{arith}
-use Rattle.model.proofs.Steps.{queue-length, queue-full, queued}
+-- `model::messages::queue` meets its contract: check by check.
+use mathlib.Core.Path.{_≡_, _∙_}
+use Rattle.frames_rules.specs.Bytes.{numberOfBytes}
+use Rattle.frames_rules.proofs.Numbers.{seven-bytes}
 use borrow.Author.Needs.{needs}
+use Rattle.lists.proofs.Checks.{all, stop, end, tests}
+use Rattle.model_rules.specs.Calls.{notQueued, queuing}
+use Rattle.model.proofs.Steps.{counted}
 use Rattle.model.proofs.messages.queue.Statement.{statement}
 use Rattle.model.proofs.messages.queue.Tie as tie
 
-returns : tie.Need-returns
-returns c = queue-length (c .before .before .args .t) _ (c .if1 .taken)
-
-count-requires : tie.Need-count-requires
-count-requires c κs = search needs
-
-returns-2 : tie.Need-returns-2
-returns-2 c = let e = c .before .count .ensures .0 in queue-full (c .before .before .before .before .before .args .t) _ (c .before .before .before .if1 .left) (omega arith)
-
-seven-bytes-requires : tie.Need-seven-bytes-requires
-seven-bytes-requires c κs = search needs
-
-push-requires : tie.Need-push-requires
-push-requires c κs = let e = c .before .before .count .ensures .0 in omega arith
-
-returns-3 : tie.Need-returns-3
-returns-3 c = let e = c .before .before .before .count .ensures .0 in queued (c .before .before .before .before .before .before .before .args .t) _ (c .before .before .before .before .before .if1 .left) _ _ (omega arith) (c .before .seven-bytes .ensures) (c .push .ensures)
+-- the number that the code makes of the message
+message : (c : tie.After-number-of) → c .number-of .result ≡ numberOfBytes (c .before .before .before .before .before .before .args .message .now)
+message c = seven-bytes (c .before .before .before .before .before .before .args .message .now) (c .number-of .ensures) (search needs)
 
 pub queue-spec : {M : Type 1} → statement M
+unfolding queuing
 queue-spec =
     tie.close
-    (tie.spec returns count-requires returns-2 seven-bytes-requires push-requires returns-3)
+    (tie.spec
+    (λ c κs. search needs)
+    (λ c. (search needs) ∙ stop (notQueued _) _ 1 all (search tests depth 12) (search tests))
+    (λ c κs. search needs)
+    (λ c κs. search needs)
+    (λ c. (search needs) ∙ stop (notQueued _) _ 6 all (search tests depth 12) (search counted))
+    (λ c κs. search needs)
+    (λ c κs. search counted)
+    (λ c. rw (c .push .ensures, message (c .before)) (end (notQueued _) _ all (search counted depth 12))))

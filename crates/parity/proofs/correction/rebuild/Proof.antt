@@ -4,8 +4,7 @@ use Prim.Native.Nat.{_-_, _≤_}
 use native.Mathlib.Omega.{arith}
 use lib.ListN.{length, length-set}
 use Rattle.parity_rules.specs.Messages.{bits}
-use Rattle.parity_rules.specs.Correction.{matching}
-use Rattle.parity_rules.specs.Steps.{first}
+use Rattle.parity_rules.specs.Correction.{matching, first}
 use Rattle.parity_rules.proofs.Bits.{bits-length}
 use Rattle.parity_rules.proofs.Choosing.{left-first}
 use Rattle.parity_rules.proofs.Written.{Written, written-start, written-step, written-end}

@@ -11,13 +11,13 @@ returns c = let a = c .before .args in sym (rw (ne-eqb (a .marks) (a .n) (c .if1
 returns-2 : tie.Need-returns-2
 returns-2 c = let a = c .before .before .args in sym (rw (eq-eqb (a .marks) (a .n) (c .before .if1 .left), ne-eqb (a .out) (a .n) (c .if2 .taken)))
 
-whole-requires : tie.Need-whole-requires
-whole-requires c κs = search needs
+seven-or-fourteen-requires : tie.Need-seven-or-fourteen-requires
+seven-or-fourteen-requires c κs = search needs
 
 returns-3 : tie.Need-returns-3
 returns-3 c =
     let a = c .before .before .before .args in
-    c .whole .ensures ∙ sym (rw (eq-eqb (a .marks) (a .n) (c .before .before .if1 .left), eq-eqb (a .out) (a .n) (c .before .if2 .left)))
+    c .seven-or-fourteen .ensures ∙ sym (rw (eq-eqb (a .marks) (a .n) (c .before .before .if1 .left), eq-eqb (a .out) (a .n) (c .before .if2 .left)))
 
 pub sized-spec : {M : Type 1} → statement M
-sized-spec = tie.close (tie.spec returns returns-2 whole-requires returns-3)
+sized-spec = tie.close (tie.spec returns returns-2 seven-or-fourteen-requires returns-3)

@@ -39,7 +39,8 @@ count-sub-next t c = omega arith
 count-mul-with : (t : ℕ) → count-lts.Need-mul-with (hit-reads.Asked, hit-reads.Learnt, count-below t, count.Post) (count-at t) count.Post
 count-mul-with t c = omega arith
 
-count-element-copy-out-with : (t : ℕ) → count-lts.Need-element-copy-out-with (hit-reads.Asked, hit-reads.Learnt, count-below t, count.Post) (count-at t) count.Post
+count-element-copy-out-with : (t : ℕ)
+    → count-lts.Need-element-copy-out-with (hit-reads.Asked, hit-reads.Learnt, count-below t, count.Post) (count-at t) count.Post
 count-element-copy-out-with t c = omega arith
 
 count-hit-requires-2 : (t : ℕ) → count-lts.Need-hit-requires-2 (hit-reads.Asked, hit-reads.Learnt, count-below t, count.Post) (count-at t) count.Post

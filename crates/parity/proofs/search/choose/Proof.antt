@@ -32,7 +32,8 @@ bit-requires c κs = search needs
 returns : tie.Need-returns
 returns c =
     let a = start (c .before) .args in
-    plain-on (bits (a .marks .now)) (a .syns .now) (a .i) (a .k) (a .want) _ (within (c .before)) (start (c .before) .pre .1) (sym (c .before .bit .ensures) ∙ c .if1 .taken)
+    plain-on (bits (a .marks .now)) (a .syns .now) (a .i) (a .k) (a .want) _ (within (c .before)) (start (c .before) .pre .1)
+    (sym (c .before .bit .ensures) ∙ c .if1 .taken)
 
 sub-next : tie.Need-sub-next
 sub-next c = omega (arith, some c)

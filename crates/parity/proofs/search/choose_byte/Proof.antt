@@ -5,8 +5,7 @@ use native.Mathlib.Omega.{arith}
 use lib.ListN.{drop}
 use lib.Pow.{pow-mono}
 use Rattle.parity_rules.specs.Messages.{bits}
-use Rattle.parity_rules.specs.Correction.{matching}
-use Rattle.parity_rules.specs.Steps.{first}
+use Rattle.parity_rules.specs.Correction.{matching, first}
 use Rattle.parity_rules.proofs.Choosing.{left-first}
 use Rattle.parity_rules.proofs.Written.{ByteAt, byte-start, byte-step, byte-end}
 use Rattle.parity.proofs.search.choose_byte.Statement.{statement}

@@ -23,6 +23,9 @@ start l = l .before .before .before .before
 abbrev period : tie.At-loop Inv-loop μ-loop → tie.After-wide Inv-loop μ-loop
 period l = l .before .before .before
 
+period-fits : (c : tie.After-wide Inv-loop μ-loop) → c .wide .result ≤ 65535
+period-fits c = search needs
+
 wide-requires : tie.Need-wide-requires Inv-loop μ-loop
 wide-requires c κs = search needs
 
@@ -40,7 +43,7 @@ pass-over-requires c κs =
     let l = c .before .before .before .before in
     let s = start l in
     let h = l .loop .inv .1 in
-    (period l .wide .ensures .1, turn-room (period l .wide .result) (s .args .s .guarantee) (s .args .n) (s .args .old) (s .args .asks) (l .loop .u) (l .loop .r) (l .loop .rows) (l .loop .counts) (s .pre) h, h .shown, h .tallied)
+    (period-fits (period l), turn-room (period l .wide .result) (s .args .s .guarantee) (s .args .n) (s .args .old) (s .args .asks) (l .loop .u) (l .loop .r) (l .loop .rows) (l .loop .counts) (s .pre) h, h .shown, h .tallied)
 
 add-u : tie.Need-add-u Inv-loop μ-loop
 add-u c = search needs
@@ -60,14 +63,16 @@ pass-over-requires-2 c κs =
     let l = c .before .before .before in
     let s = start l in
     let h = l .loop .inv .1 in
-    (period l .wide .ensures .1, turn-room (period l .wide .result) (s .args .s .guarantee) (s .args .n) (s .args .old) (s .args .asks) (l .loop .u) (l .loop .r) (l .loop .rows) (l .loop .counts) (s .pre) h, h .shown, h .tallied)
+    (period-fits (period l), turn-room (period l .wide .result) (s .args .s .guarantee) (s .args .n) (s .args .old) (s .args .asks) (l .loop .u) (l .loop .r) (l .loop .rows) (l .loop .counts) (s .pre) h, h .shown, h .tallied)
 
 returns : tie.Need-returns Inv-loop μ-loop
 returns c =
     let e = c .before .before .before in
     let l = e .before in
     let s = start l in
-    all-passed (period l .wide .result) (s .args .s .guarantee) (s .args .n) (s .args .old) (s .args .asks) (s .args .s) (l .loop .u) (l .loop .r) (c .pass-over2 .result) (l .loop .rows) (l .loop .counts) _ _ (period l .wide .ensures .0) refl (l .loop .inv .0) (e .loop-test .left) (l .loop .inv .1) (c .pass-over2 .ensures)
+    all-passed (period l .wide .result) (s .args .s .guarantee) (s .args .n) (s .args .old) (s .args .asks) (s .args .s) (l .loop .u) (l .loop .r)
+    (c .pass-over2 .result) (l .loop .rows) (l .loop .counts) _ _ (period l .wide .ensures) refl (l .loop .inv .0) (e .loop-test .left) (l .loop .inv .1)
+    (c .pass-over2 .ensures)
 
 pub make-passes-spec : {M : Type 1} → statement M
 make-passes-spec =

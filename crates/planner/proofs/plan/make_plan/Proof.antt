@@ -40,7 +40,8 @@ returns-2 c =
     let p = c .before .before .before in
     let n = counted (p .before .before) in
     let s = n .before in
-    plan-shown (s .args .s) (n .live .result) (s .args .w .n) (s .args .old) (s .args .w .list) (n .live .ensures .0) (slots s) (p .make-passes .result) (c .over-slots .result) (p .make-passes .ensures) (c .over-slots .ensures)
+    plan-shown (s .args .s) (n .live .result) (s .args .w .n) (s .args .old) (s .args .w .list) (n .live .ensures .0) (slots s) (p .make-passes .result)
+    (c .over-slots .result) (p .make-passes .ensures) (c .over-slots .ensures)
 
 pub make-plan-spec : {M : Type 1} → statement M
 make-plan-spec = tie.close (tie.spec live-requires returns make-passes-requires over-slots-requires returns-2)

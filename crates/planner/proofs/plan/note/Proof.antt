@@ -72,7 +72,7 @@ unfolding noted
 returns c = let w = c .before .before .before .wide .ensures in
     let o = c .before .before .before .before .of .ensures in
     let to = ap (λ (r : Exchange). r .to) (o .0) in
-    (rw (w .0, o .0), omega (arith, w .0, w .1, o .1 .to, to))
+    (rw (w, o .0), omega (arith, w, o .1 .to, to))
 
 pub note-spec : {M : Type 1} → statement M
 note-spec =

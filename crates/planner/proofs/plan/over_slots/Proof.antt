@@ -54,7 +54,8 @@ returns c =
     let l = c .before in
     let s = l .before in
     let e : length (s .args .t3) ≡ 128 = search (needs, length-mapped) in
-    copied-front itself (s .args .n) (s .args .t3) (s .args .base) (l .loop .i) (l .loop .out) (omega (arith, s .pre)) (l .loop .inv .1) ∙ rw (map-id (take (s .args .n) (s .args .t3)))
+    copied-front itself (s .args .n) (s .args .t3) (s .args .base) (l .loop .i) (l .loop .out) (omega (arith, s .pre)) (l .loop .inv .1)
+    ∙ rw (map-id (take (s .args .n) (s .args .t3)))
 
 pub over-slots-spec : {M : Type 1} → statement M
 over-slots-spec =

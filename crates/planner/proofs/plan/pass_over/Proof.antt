@@ -150,7 +150,8 @@ returns : tie.Need-returns Inv-loop μ-loop
 returns c =
     let l = c .before .before in
     let s = l .before .before .before in
-    pass-end (s .args .l) (s .args .limits) (s .args .b) (l .loop .i) (l .loop .rows) (l .loop .counts) (slots l) (c .if1 .left) (l .loop .inv .0) (l .loop .inv .3)
+    pass-end (s .args .l) (s .args .limits) (s .args .b) (l .loop .i) (l .loop .rows) (l .loop .counts) (slots l) (c .if1 .left) (l .loop .inv .0)
+    (l .loop .inv .3)
 
 pub pass-over-spec : {M : Type 1} → statement M
 pass-over-spec =

@@ -27,7 +27,8 @@ of-requires c κs = search needs
 returns : tie.Need-returns Inv-loop μ-loop
 returns c = let o = c .before .before in
     let g = o .before .args in
-    λ es k h. none-left (g .l) (g .a) (g .n) es 0 0 0 (o .of .result .to) (ap (λ (r : Exchange). r .to) (o .of .ensures .0)) (omega (arith, c .if1 .taken)) (round-first (g .l) (g .a) (g .n) es)
+    λ es k h. none-left (g .l) (g .a) (g .n) es 0 0 0 (o .of .result .to) (ap (λ (r : Exchange). r .to) (o .of .ensures .0)) (omega (arith, c .if1 .taken))
+    (round-first (g .l) (g .a) (g .n) es)
 
 loop-holds : tie.Need-loop-holds Inv-loop μ-loop
 loop-holds c = let s = c .before .before .before .before in
@@ -59,7 +60,9 @@ returns-2 : tie.Need-returns-2 Inv-loop μ-loop
 returns-2 c = let l = c .before .before .before in
     let o = l .before .before .before .before in
     let g = o .before .args in
-    λ es k h. found (g .l) (g .a) (g .n) es (l .loop .from) (l .loop .t) (l .loop .i) (o .of .result .to) (ap (λ (r : Exchange). r .to) (o .of .ensures .0)) (c .before .if2 .left) (c .if3 .taken) (omega (arith, c .before .before .loop-test .taken, l .before .before .if1 .left)) (l .loop .inv .0 (g .a) es (o .of .ensures .0) refl k h)
+    λ es k h. found (g .l) (g .a) (g .n) es (l .loop .from) (l .loop .t) (l .loop .i) (o .of .result .to) (ap (λ (r : Exchange). r .to) (o .of .ensures .0))
+    (c .before .if2 .left) (c .if3 .taken) (omega (arith, c .before .before .loop-test .taken, l .before .before .if1 .left))
+    (l .loop .inv .0 (g .a) es (o .of .ensures .0) refl k h)
 
 loop-less-2 : tie.Need-loop-less-2 Inv-loop μ-loop
 loop-less-2 c = let l = c .before .before .before in omega (arith, l .loop .inv .1, l .loop .inv .3)
@@ -74,7 +77,9 @@ returns-3 : tie.Need-returns-3 Inv-loop μ-loop
 returns-3 c = let l = c .before in
     let o = l .before .before .before .before in
     let g = o .before .args in
-    λ es k h. none-left (g .l) (g .a) (g .n) es (l .loop .from) (l .loop .t) (l .loop .i) (o .of .result .to) (ap (λ (r : Exchange). r .to) (o .of .ensures .0)) (omega (arith, c .loop-test .left, l .before .before .if1 .left)) (l .loop .inv .0 (g .a) es (o .of .ensures .0) refl k h)
+    λ es k h. none-left (g .l) (g .a) (g .n) es (l .loop .from) (l .loop .t) (l .loop .i) (o .of .result .to)
+    (ap (λ (r : Exchange). r .to) (o .of .ensures .0)) (omega (arith, c .loop-test .left, l .before .before .if1 .left))
+    (l .loop .inv .0 (g .a) es (o .of .ensures .0) refl k h)
 
 pub first-fit-spec : {M : Type 1} → statement M
 first-fit-spec =

@@ -22,14 +22,14 @@ add-result : tie.Need-add-result
 add-result c = search needs
 
 mul-result : tie.Need-mul-result
-mul-result c = record { fits = product-fits (c .before .sum .result) (c .wide .result) (c .before .sum .ensures .1) (c .wide .ensures .1) }
+mul-result c = record { fits = product-fits (c .before .sum .result) (c .wide .result) (c .before .sum .ensures .1) (search needs) }
 
 wide-requires-2 : tie.Need-wide-requires-2
 wide-requires-2 c κs = search needs
 
 returns : tie.Need-returns
 unfolding sharesFit
-returns c = rw (c .before .before .sum .ensures .0, c .before .wide .ensures .0, c .wide2 .ensures .0)
+returns c = rw (c .before .before .sum .ensures .0, c .before .wide .ensures, c .wide2 .ensures)
 
 pub fit-spec : {M : Type 1} → statement M
 fit-spec =

@@ -37,8 +37,8 @@ use denote.Triple.Table.{entered, cited}
 use denote.Triple.Walked.{says, Stays, stay-none, stay-none-slice, walkOf, goes-none, goes-none-slice, Walks, ends-at, walked, walk-meets}
 use denote.Exit.{yes}
 use denote.Triple.Clauses.{ensured, lasts}
-use Rattle.reader_rules.specs.Answers.{foundSaid, toldAt}
-use Rattle.reader_rules.specs.Readers.{readerAt, toldBy}
+use Rattle.reader_rules.specs.Answers.{foundSaid, saidAt}
+use Rattle.reader_rules.specs.Readers.{readerAt, saidBy}
 use Rattle.reader_rules.specs.declared.reader.Reader.{Reader}
 use Rattle.reader_rules.specs.declared.reading.Found.{Found}
 use Rattle.reader_rules.proofs.reader.Reader as T
@@ -108,10 +108,10 @@ module _ {M : Type 1} (𝓤 : URA M) (H : Heap 𝓤) (A : Atoms 𝓤) (W : Given
   goes-found : (r : Reader) (u : Val) → ent 𝓤 (⋆ 𝓤 H A (‵ (B (κ, tt) .own r (u ∷ [])) ∷ (‵ (flft κ q) ⊛ ‵ ftrue) ∷ [])) (FoundBy 𝓤 H A mem run .pre (to-found r u))
   goes-found r u = qed W (‵ (B (κ, tt) .own r (u ∷ [])) ∷ (‵ (flft κ q) ⊛ ‵ ftrue) ∷ []) ∵ nothing ! $ move ! (1 ∷ 0 ∷ []) $ fjoin ! $ move ! (1 ∷ 0 ∷ []) $ join ! $ frame ! $ done !
 
-  found-said : (r : Reader) (t : Found) → ent 𝓤 (ensured 𝓤 H A found-by.ended (found-by.clauses 𝓤 H A mem run) (κ, tt) (r, tt) tt t) (fact 𝓤 (foundSaid t ≡ toldBy r))
-  found-said r t = exE 𝓤 _ (λ ws. snd∗ 𝓤 (sem 𝓤 H A (lasts found-by.ended (κ, tt) (r, tt) ws)) (fact 𝓤 (foundSaid t ≡ toldBy r)))
+  found-said : (r : Reader) (t : Found) → ent 𝓤 (ensured 𝓤 H A found-by.ended (found-by.clauses 𝓤 H A mem run) (κ, tt) (r, tt) tt t) (fact 𝓤 (foundSaid t ≡ saidBy r))
+  found-said r t = exE 𝓤 _ (λ ws. snd∗ 𝓤 (sem 𝓤 H A (lasts found-by.ended (κ, tt) (r, tt) ws)) (fact 𝓤 (foundSaid t ≡ saidBy r)))
 
-  exits : (t : Found) (u : Val) → foundSaid t ≡ toldAt (now s) n → ent 𝓤 (⋆ 𝓤 H A (‵ (S.the-row .own t (u ∷ [])) ∷ (‵ (flft κ q) ⊛ ‵ ftrue) ∷ ‵ Own ∷ [])) (Post u)
+  exits : (t : Found) (u : Val) → foundSaid t ≡ saidAt (now s) n → ent 𝓤 (⋆ 𝓤 H A (‵ (S.the-row .own t (u ∷ [])) ∷ (‵ (flft κ q) ⊛ ‵ ftrue) ∷ ‵ Own ∷ [])) (Post u)
   exits t u e =
       qed W (‵ (S.the-row .own t (u ∷ [])) ∷ (‵ (flft κ q) ⊛ ‵ ftrue) ∷ ‵ Own ∷ []) ∵
       suffices ! _ (ends-at 𝓤 H A first.ended stayed (first.clauses 𝓤 H A mem run) W (((κ, tt), (q, tt), tt, (s, (n, tt)), (v ∷ [], (vint w64 n ∷ [], tt))), tt) u t (tt, (tt, tt)) (tt, (tt, tt))) $ says ! e $
@@ -132,12 +132,12 @@ module _ {M : Type 1} (𝓤 : URA M) (H : Heap 𝓤) (A : Atoms 𝓤) (W : Given
         use2 W (raw (FoundBy 𝓤 H A mem run .pre (to-found r u))) (goes-found r u) $
         calls-at ! fm (FoundBy 𝓤 H A mem run) known-found (to-found r u) (and-then ! (load ! (from ! (stop !)) (look ! 2 refl)) (no-more !)) (λ u′.
         use1 W (later (some (λ (t : Found). ((‵ (flft κ q) ⊛ ‵ ftrue) ⊛ ‵ (S.the-row .own t (u′ ∷ []))) ⊛ raw (ensured 𝓤 H A found-by.ended (found-by.clauses 𝓤 H A mem run) (κ, tt) (r, tt) tt t)))) (id⊢ 𝓤 _) $ await ! tt $ pick ! (λ t.
-        split ! $ move ! (1 ∷ []) $ use1 W (raw (fact 𝓤 (foundSaid t ≡ toldBy r))) (found-said r t) $ heard ! (foundSaid t ≡ toldBy r) (λ e′. split ! $ move ! (1 ∷ []) $
+        split ! $ move ! (1 ∷ []) $ use1 W (raw (fact 𝓤 (foundSaid t ≡ saidBy r))) (found-said r t) $ heard ! (foundSaid t ≡ saidBy r) (λ e′. split ! $ move ! (1 ∷ []) $
         -- [the result; the token; what s owns; _2; …; _1; …; room for _0; …]
         peeks ! S.the-row (Is S.the-row) (shows 𝓤 H A S.the-row) t (u′ ∷ []) (λ is′.
         land ! (from ! (stop !)) (init ! 9 refl (EL.lawful S.the-type S′.the-laws 𝓤 H A W tt .typed t _ is′ .0)) $
         returns ! (look ! 9 refl) $ forget ! 3 refl $ forget ! 5 refl $ forget ! 7 refl $ forget ! 9 refl $ move ! (9 ∷ 10 ∷ []) $ free1 ! $ move ! (7 ∷ 8 ∷ []) $ free1 ! $ move ! (5 ∷ 6 ∷ []) $ free1 ! $ move ! (3 ∷ 4 ∷ []) $ free1 ! $ free0 ! $
-        by ! (exits t u′ (e′ ∙ ap toldBy e))))))))))))))
+        by ! (exits t u′ (e′ ∙ ap saidBy e))))))))))))))
 
 module _ {M : Type 1} (𝓤 : URA M) (H : Heap 𝓤) (A : Atoms 𝓤) (W : Given 𝓤 H A) (mem : Memory → SProp 𝓤) (run : Routine → Fun 𝓤) where
   first-walks : (C : Calls 𝓤 H) (Λ : Loops 𝓤 H) → FmC 𝓤 H (W .laws) C → Triple 𝓤 (C #reader·reader-at) (New 𝓤 H A mem run) → Triple 𝓤 (C #reader·found-by) (FoundBy 𝓤 H A mem run)

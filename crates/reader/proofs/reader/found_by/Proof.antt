@@ -43,7 +43,7 @@ use denote.Triple.Walked.{says, Stays, stay-none, walkOf, goes-none, Walks, ends
 use denote.Exit.{yes}
 use denote.Triple.Clauses.{ensured, lasts}
 use Rattle.reader_rules.specs.Answers.{foundSaid}
-use Rattle.reader_rules.specs.Readers.{toldBy}
+use Rattle.reader_rules.specs.Readers.{saidBy}
 use Rattle.reader_rules.specs.declared.reader.Reader.{Reader}
 use Rattle.reader_rules.specs.declared.reading.Found.{Found}
 use Rattle.reader_rules.proofs.reader.Reader as T
@@ -81,7 +81,7 @@ module _ {M : Type 1} (𝓤 : URA M) (H : Heap 𝓤) (A : Atoms 𝓤) (W : Given
 
   -- what is said of the record
   abbrev Said : Found → Type 0
-  Said r = foundSaid r ≡ toldBy d
+  Said r = foundSaid r ≡ saidBy d
 
   abbrev Post : Val → SProp 𝓤
   Post = walkOf 𝓤 H A found-by.ended stayed (found-by.clauses 𝓤 H A mem run) .post (((κ, tt), (q, tt), tt, (d, tt), (mach ∷ [], tt)), tt)

@@ -3,14 +3,14 @@ use borrow.Author.Needs.{needs}
 use Rattle.station.proofs.ages.older.Statement.{statement}
 use Rattle.station.proofs.ages.older.Tie as tie
 
-value-after-requires : tie.Need-value-after-requires
-value-after-requires c κs = search needs
-
-value-after-requires-2 : tie.Need-value-after-requires-2
-value-after-requires-2 c κs = search needs
-
-returns : tie.Need-returns
-returns c = rw (c .before .value-after .ensures, c .value-after2 .ensures)
-
 pub older-spec : {M : Type 1} → statement M
-older-spec = tie.close (tie.spec value-after-requires value-after-requires-2 returns)
+older-spec =
+    tie.close
+    (tie.spec
+    (λ c κs. search needs)
+    (λ c κs. search needs)
+    (λ c κs. search needs)
+    (λ c κs. search needs)
+    (λ c.
+    rw
+    (c .with-ac .ensures, c .before .value-after2 .ensures, c .before .before .with-id .ensures, c .before .before .before .value-after .ensures)))

@@ -1,80 +1,67 @@
 -- `station::correcting::correct_as` meets its contract: what the trial says.
 use mathlib.Core.Path.{_≡_, sym, ap, subst, _∙_}
-use mathlib.Core.List.{List}
-use Prim.Native.Nat.{ℕ, _<_}
+use mathlib.Core.List.{List, _++_}
+use Prim.Native.Nat.{ℕ, _≤_, _<_}
 use lib.ListN.{length, take, replicate}
 use lib.Seq.{length-take-le, take-at}
-use Rattle.station.specs.Trials.{outcome}
-use Rattle.station.proofs.Trials.{sized-room, sized-most, sized-least, same-as, share-fits, alike, refused-as, taken-as}
+use Rattle.station.specs.Trials.{asCorrection}
+use Rattle.station.proofs.Trials.{sized-room, sized-most, sized-least, same-as, share-fits, refused-as, taken-as}
 use borrow.Author.Needs.{needs}
 use Rattle.station.proofs.correcting.correct_as.Statement.{statement}
 use Rattle.station.proofs.correcting.correct_as.Tie as tie
 
-array-borrow-prefix-scratch : tie.Need-array-borrow-prefix-scratch
-array-borrow-prefix-scratch c = sized-most _ _ _ (c .before .before .before .pre)
+-- ---- the part of the scratch buffer that the trial is lent
+abbrev begun : tie.After-slice-known → tie.Start
+begun c = c .before .before .before
 
-slice-aggregate-on-trial : tie.Need-slice-aggregate-on-trial
-slice-aggregate-on-trial c = sym (length-take-le _ _ (sized-most _ _ _ (c .before .before .before .before .pre)))
+abbrev bytes : tie.Start → ℕ
+bytes c = length (c .args .msg .now)
 
-on-trial-requires : tie.Need-on-trial-requires
-on-trial-requires c κs = let s = c .before .before .before .before in subst (λ (k : ℕ). 3 < k) (sym (length-take-le (length (s .args .msg .now)) (replicate {A = ℕ} 14 0) (sized-most _ _ _ (s .pre)))) (sized-least _ _ _ (s .pre))
+short : (c : tie.Start) → bytes c ≤ 14
+short c = sized-most _ _ _ (c .pre)
 
-returns : tie.Need-returns
-returns c = let s = c .before .before .before .before .before .before .before .before in
-    let m = s .args .msg .now in
-    let h = sized-most _ _ _ (s .pre) in
-    refused-as (s .args .format) (take (length m) (replicate 14 0)) (s .args .out .now) (c .before .before .before .on-trial .result) _ _ _
-    (alike (take (length m) (replicate 14 0)) (s .args .out .now) (length-take-le (length m) (replicate 14 0) h ∙ sym (sized-room (length m) _ _ (s .pre))) m (s .args .marks .now) (s .args .address) (s .args .limit))
-    (c .before .before .before .on-trial .ensures) (c .if1 .taken)
+lent : (c : tie.Start) → length (take (bytes c) (replicate {A = ℕ} 14 0)) ≡ bytes c
+lent c = length-take-le (bytes c) (replicate {A = ℕ} 14 0) (short c)
 
-array-share-prefix-scratch : tie.Need-array-share-prefix-scratch
-array-share-prefix-scratch c = let s = c .before .before .before .before .before .before .before .before in
-    let m = s .args .msg .now in
-    let h = sized-most _ _ _ (s .pre) in
-    let t = c .before .before .before .on-trial .last .1 .1 .1 .1 .1 .0 in
-    let e : length t ≡ length m = same-as t (length m) (search needs) h in
-    share-fits t _ (length m) e
+same-room : (c : tie.Start) → length (take (bytes c) (replicate {A = ℕ} 14 0)) ≡ length (c .args .out .now)
+same-room c = lent c ∙ sym (sized-room (bytes c) _ _ (c .pre))
 
-slice-aggregate-copy : tie.Need-slice-aggregate-copy
-slice-aggregate-copy c = let s = c .before .before .before .before .before .before .before .before .before in
-    let m = s .args .msg .now in
-    let h = sized-most _ _ _ (s .pre) in
-    let t = c .before .before .before .before .on-trial .last .1 .1 .1 .1 .1 .0 in
-    let e : length t ≡ length m = same-as t (length m) (search needs) h in
-    sym (length-take-le (length m) _ (share-fits t _ (length m) e))
+-- ---- what the trial wrote there
+abbrev trial : tie.After-struct-known → tie.After-on-trial
+trial c = c .before .before
 
-copy-requires : tie.Need-copy-requires
-copy-requires c κs = let s = c .before .before .before .before .before .before .before .before .before .before in
-    let m = s .args .msg .now in
-    let h = sized-most _ _ _ (s .pre) in
-    let t = c .before .before .before .before .before .on-trial .last .1 .1 .1 .1 .1 .0 in
-    let e : length t ≡ length m = same-as t (length m) (search needs) h in
-    length-take-le (length m) _ (share-fits t _ (length m) e) ∙ sym (sized-room (length m) _ _ (s .pre))
+abbrev start : tie.After-on-trial → tie.Start
+start c = begun (c .before .before)
 
-same-length : tie.Need-same-length
-same-length c = search needs
+abbrev wrote : tie.After-on-trial → List ℕ
+wrote c = c .on-trial .last .1 .1 .1 .1 .1 .0
 
-returns-2 : tie.Need-returns-2
-returns-2 c = let s = c .before .before .before .before .before .before .before .before .before .before .before .before .before in
-    let m = s .args .msg .now in
-    let h = sized-most _ _ _ (s .pre) in
-    let t = c .before .before .before .before .before .before .before .before .on-trial .last .1 .1 .1 .1 .1 .0 in
-    let e : length t ≡ length m = same-as t (length m) (search needs) h in
-    ap (λ (v : List ℕ). outcome (c .before .before .before .before .before .before .before .before .on-trial .result) v) (c .before .before .copy .ensures ∙ take-at t _ (length m) e)
-    ∙ taken-as (s .args .format) (take (length m) (replicate 14 0)) (s .args .out .now) (c .before .before .before .before .before .before .before .before .on-trial .result) t _ _
-    (alike (take (length m) (replicate 14 0)) (s .args .out .now) (length-take-le (length m) (replicate 14 0) h ∙ sym (sized-room (length m) _ _ (s .pre))) m (s .args .marks .now) (s .args .address) (s .args .limit))
-    (c .before .before .before .before .before .before .before .before .on-trial .ensures) (c .before .before .before .before .before .if1 .left)
+long : (c : tie.After-on-trial) → length (wrote c) ≡ bytes (start c)
+long c = same-as (wrote c) (bytes (start c)) (search needs) (short (start c))
+
+inside : (c : tie.Else1) (w : List ℕ) → bytes (start (trial (c .before))) ≤ length (wrote (trial (c .before)) ++ w)
+inside c w = share-fits (wrote (trial (c .before))) w (bytes (start (trial (c .before)))) (long (trial (c .before)))
+
+abbrev left : tie.After-copy-arg → tie.Else1
+left c = c .before .before
 
 pub correct-as-spec : {M : Type 1} → statement M
 correct-as-spec =
     tie.close
     (tie.spec
-    array-borrow-prefix-scratch
-    slice-aggregate-on-trial
-    on-trial-requires
-    returns
-    array-share-prefix-scratch
-    slice-aggregate-copy
-    copy-requires
-    same-length
-    returns-2)
+    (λ c. short (begun c))
+    (λ c. sym (lent (begun (c .before))))
+    (λ c κs. subst (λ (k : ℕ). 3 < k) (sym (lent (begun (c .before)))) (sized-least _ _ _ (begun (c .before) .pre)))
+    (λ c.
+    let t = trial (c .before) in
+    refused-as _ _ _ _ _ _ _ (wrote t) (same-room (start t)) (t .on-trial .result) (t .on-trial .ensures) (c .if1 .taken))
+    (λ c. inside c _)
+    (λ c. sym (length-take-le _ _ (inside (c .before) _)))
+    (λ c κs. length-take-le _ _ (inside (left c) _) ∙ sym (sized-room _ _ _ (start (trial (left c .before)) .pre)))
+    (λ c. search needs)
+    (λ c.
+    let k = c .before .before in
+    let e = left (k .before) in
+    let t = trial (e .before) in
+    ap (λ (v : List ℕ). asCorrection (t .on-trial .result) v) (k .copy .ensures ∙ take-at (wrote t) _ (bytes (start t)) (long t))
+    ∙ taken-as _ _ _ _ _ _ _ (wrote t) (same-room (start t)) (t .on-trial .result) (t .on-trial .ensures) (e .if1 .left)))

@@ -21,7 +21,8 @@ returns c = let k = c .before in
     let p = k .before .before .before in
     let j = p .before in
     let s = j .before .before .before .before .before .before in
-    plan-is (s .args .s) (s .args .tag) (j .join .result) (p .make-plan .result) (k .put-back .result) (c .all-older .result) (j .join .ensures) (p .make-plan .ensures) (k .put-back .ensures) (c .all-older .ensures)
+    plan-is (s .args .s) (s .args .tag) (j .join .result) (p .make-plan .result) (k .put-back .result) (c .all-older .result) (j .join .ensures)
+    (p .make-plan .ensures) (k .put-back .ensures) (c .all-older .ensures)
 
 pub plan-period-spec : {M : Type 1} → statement M
 plan-period-spec =

@@ -1,81 +1,86 @@
 -- `station::replies::settle` meets its contract: by the correction.
-use mathlib.Core.Path.{_≡_, sym, ap, subst, _∙_}
+use mathlib.Core.Path.{_≡_, sym, ap, ap₂, subst, _∙_}
 use Prim.Native.Nat.{ℕ, _<_}
 use lib.ListN.{length}
 use mir.Syntax.{w32}
 use mir.ValLaws.{toZ-ofZ}
-use Rattle.station_rules.specs.declared.state.Reply.{Reply}
-use Rattle.station_rules.specs.Replies.{delayOf, told}
+use Rattle.planner_rules.specs.declared.entry.Entry.{Entry}
+use Rattle.station_rules.specs.Replies.{inWindow, delayOf, Received, received}
 use Rattle.station.proofs.Trials.{sized-room, sized-least}
 use Rattle.station.proofs.Settling.{settled-refused, settled-taken}
 use borrow.Author.Needs.{needs}
 use Rattle.station.proofs.replies.settle.Statement.{statement}
 use Rattle.station.proofs.replies.settle.Tie as tie
 
-entry-of-requires : tie.Need-entry-of-requires
-entry-of-requires c κs = search needs
+-- ---- the places before the branch
+abbrev start : tie.After-entry-of → tie.Start
+start c = c .before .before .before .before .before
 
-byte-requires : tie.Need-byte-requires
-byte-requires c κs = search needs
+abbrev entry : tie.After-expected → tie.After-entry-of
+entry c = c .before .before .before .before
 
-expected-requires : tie.Need-expected-requires
-expected-requires c κs = search needs
+abbrev asked : tie.After-correct-as → tie.After-expected
+asked c = c .before .before
 
-correct-as-requires : tie.Need-correct-as-requires
-correct-as-requires c κs = search needs
+abbrev corrected : tie.After-struct-known → tie.After-correct-as
+corrected c = c .before .before .before
 
-refused-requires : tie.Need-refused-requires
-refused-requires c κs = search needs
+abbrev taken : tie.After-value-in → tie.Else1
+taken c = c .before .before
 
-same-length : tie.Need-same-length
-same-length c = search needs
+abbrev heard : tie.After-answered → tie.After-value-in
+heard c = c .before .before
 
-returns : tie.Need-returns
-returns c = let a = c .before .before .before .before .before .before .before .before .before .before .before .before .before .before .before .before .args in
-    let e = c .before .before .before .before .before .before .before .before .before .before .before .entry-of .result in
-    ap (λ (r : Reply). told r (c .before .before .before .before .before .correct-as .last .1 .1 .1 .1 .1 .0)) (c .refused .ensures)
-    ∙ settled-refused (a .s) (a .entry) (a .start) (a .msg .now) (a .marks .now) (a .out .now) e (c .before .before .before .before .before .before .before .before .before .before .before .entry-of .ensures) (c .before .before .before .before .before .before .before .expected .result) (c .before .before .before .before .before .before .before .before .byte .result) (c .before .before .before .before .before .before .before .expected .ensures) (c .before .before .before .before .before .before .before .before .byte .ensures) (c .before .before .before .before .before .correct-as .result) _ (c .before .before .before .before .before .correct-as .ensures) (c .before .if1 .taken)
+abbrev came : tie.After-correct-as → tie.Start
+came c = start (entry (asked c))
 
-value-in-requires : tie.Need-value-in-requires
-value-in-requires c κs = let s = c .before .before .before .before .before .before .before .before .before .before .before .before .before .before .before .before in
-    let n = length (s .args .msg .now) in
-    let t = c .before .before .before .before .before .correct-as .last .1 .1 .1 .1 .1 .0 in
-    let same : length t ≡ length (s .args .out .now) = search needs in
-    let r : length (s .args .out .now) ≡ n = sized-room n (length (s .args .marks .now)) (length (s .args .out .now)) (s .pre .0) in
-    subst (λ (k : ℕ). 3 < k) (sym (same ∙ r)) (sized-least n (length (s .args .marks .now)) (length (s .args .out .now)) (s .pre .0))
+-- the buffer after the correction is as long as before it
+least : (c : tie.After-correct-as) → 3 < length (c .correct-as .last .1 .1 .1 .1 .1 .0)
+least c =
+    let a = came c .args in
+    let same : length (c .correct-as .last .1 .1 .1 .1 .1 .0) ≡ length (a .out .now) = search needs in
+    let n = length (a .msg .now) in
+    let h = came c .pre .0 in
+    subst (λ (k : ℕ). 3 < k) (sym (same ∙ sized-room n (length (a .marks .now)) (length (a .out .now)) h))
+    (sized-least n (length (a .marks .now)) (length (a .out .now)) h)
 
-hear-requires : tie.Need-hear-requires
-hear-requires c κs = search needs
-
-answered-requires : tie.Need-answered-requires
-answered-requires c κs = c .before .before .before .before .before .before .before .before .before .before .before .before .before .before .before .before .before .before .pre .1 .0
-
-delay-requires : tie.Need-delay-requires
-delay-requires c κs = rw (c .before .before .before .before .before .before .before .before .before .before .before .before .before .before .entry-of .ensures) (c .before .before .before .before .before .before .before .before .before .before .before .before .before .before .before .before .before .before .before .pre .1 .1)
-
-same-length-2 : tie.Need-same-length-2
-same-length-2 c = search needs
-
-returns-2 : tie.Need-returns-2
-returns-2 c = let a = c .before .before .before .before .before .before .before .before .before .before .before .before .before .before .before .before .before .before .before .before .args in
-    let e = c .before .before .before .before .before .before .before .before .before .before .before .before .before .before .before .entry-of .result in
-    let k = c .delay .ensures in
-    settled-taken (a .s) (a .entry) (a .start) (a .msg .now) (a .marks .now) (a .out .now) e (c .before .before .before .before .before .before .before .before .before .before .before .before .before .before .before .entry-of .ensures) (c .before .before .before .before .before .before .before .before .before .before .before .expected .result) (c .before .before .before .before .before .before .before .before .before .before .before .before .byte .result) (c .before .before .before .before .before .before .before .before .before .before .before .expected .ensures) (c .before .before .before .before .before .before .before .before .before .before .before .before .byte .ensures) (c .before .before .before .before .before .before .before .before .before .correct-as .result) _ (c .before .before .before .before .before .before .before .before .before .correct-as .ensures) (c .before .before .before .before .before .if1 .left) (c .before .before .before .value-in .result) (c .before .before .before .value-in .ensures) _ (rw (k .0) (toZ-ofZ w32 (delayOf e (a .start)) (k .1))) (c .before .before .hear .result) (c .before .before .hear .ensures) (c .before .answered .result) (c .before .answered .ensures)
+abbrev reply : tie.Start → Received
+reply c = received (c .args .entry) (c .args .tag) (c .args .msg .now) (c .args .marks .now) (c .args .out .now)
 
 pub settle-spec : {M : Type 1} → statement M
 settle-spec =
     tie.close
     (tie.spec
-    entry-of-requires
-    byte-requires
-    expected-requires
-    correct-as-requires
-    refused-requires
-    same-length
-    returns
-    value-in-requires
-    hear-requires
-    answered-requires
-    delay-requires
-    same-length-2
-    returns-2)
+    (λ c κs. search needs)
+    (λ c κs. search needs)
+    (λ c κs. search needs)
+    (λ c κs. search needs)
+    (λ c κs. search needs)
+    (λ c. search needs)
+    (λ c.
+    let k = corrected (c .before .before) in
+    let x = asked k in
+    let e = entry x in
+    settled-refused (start e .args .s) (reply (start e)) (e .entry-of .result) (e .entry-of .ensures) (x .expected .result) (x .before .byte .result)
+    (x .expected .ensures) (x .before .byte .ensures) (k .correct-as .result) _ (k .correct-as .ensures) (c .before .if1 .taken) _ (c .refused .ensures))
+    (λ c κs. least (corrected (c .before .before)))
+    (λ c κs. search needs)
+    (λ c κs. came (corrected (taken (c .before) .before)) .pre .1 .0)
+    (λ c κs. search needs)
+    (λ c κs.
+    let e = entry (asked (corrected (taken (heard (c .before)) .before))) in
+    ap₂ (λ (x : Entry) (t : ℕ). inWindow x t) (e .entry-of .ensures) (c .start-of .ensures) ∙ start e .pre .1 .1)
+    (λ c. search needs)
+    (λ c.
+    let t = c .before in
+    let d = t .before in
+    let v = heard d in
+    let k = corrected (taken v .before) in
+    let x = asked k in
+    let e = entry x in
+    let n = c .delay .ensures in
+    settled-taken (start e .args .s) (reply (start e)) (e .entry-of .result) (e .entry-of .ensures) (x .expected .result) (x .before .byte .result)
+    (x .expected .ensures) (x .before .byte .ensures) (k .correct-as .result) _ (k .correct-as .ensures) (taken v .if1 .left) (v .value-in .result)
+    (v .value-in .ensures) _
+    ((rw (n .0) (toZ-ofZ w32 (delayOf (e .entry-of .result) (t .start-of .result)) (n .1))) ∙ ap (delayOf (e .entry-of .result)) (t .start-of .ensures))
+    (d .before .hear .result) (d .before .hear .ensures) (d .answered .result) (d .answered .ensures)))

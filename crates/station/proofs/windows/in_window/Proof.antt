@@ -17,7 +17,9 @@ add-if1-2 : tie.Need-add-if1-2
 add-if1-2 c = search needs
 
 returns : tie.Need-returns
-returns c = early (c .before .before .before .args .e) (c .before .before .before .args .s) (c .before .before .wide .result) (c .before .wide2 .result) (c .before .before .wide .ensures) (c .before .wide2 .ensures) (c .if1 .taken)
+returns c =
+    early (c .before .before .before .args .e) (c .before .before .before .args .s) (c .before .before .wide .result) (c .before .wide2 .result)
+    (c .before .before .wide .ensures) (c .before .wide2 .ensures) (c .if1 .taken)
 
 add-result : tie.Need-add-result
 add-result c = search needs
@@ -29,7 +31,10 @@ add-result-2 : tie.Need-add-result-2
 add-result-2 c = search needs
 
 returns-2 : tie.Need-returns-2
-returns-2 c = not-early (c .before .before .before .before .args .e) (c .before .before .before .before .args .s) (c .before .before .before .wide .result) (c .before .before .wide2 .result) (c .before .before .before .wide .ensures) (c .wide3 .result) (c .before .before .wide2 .ensures) (c .wide3 .ensures) (c .before .if1 .left)
+returns-2 c =
+    not-early (c .before .before .before .before .args .e) (c .before .before .before .before .args .s) (c .before .before .before .wide .result)
+    (c .before .before .wide2 .result) (c .before .before .before .wide .ensures) (c .wide3 .result) (c .before .before .wide2 .ensures) (c .wide3 .ensures)
+    (c .before .if1 .left)
 
 pub in-window-spec : {M : Type 1} → statement M
 in-window-spec =

@@ -19,7 +19,9 @@ same-length c = search needs
 
 returns : tie.Need-returns
 unfolding line answerLine
-returns c = within-then (c .before .before .before .before .before .before .before .before .before .before .put-number .ensures) (within-then (c .before .before .before .before .before .before .put-number2 .ensures) (c .before .before .put-number3 .ensures))
+returns c =
+    within-then (c .before .before .before .before .before .before .before .before .before .before .put-number .ensures)
+    (within-then (c .before .before .before .before .before .before .put-number2 .ensures) (c .before .before .put-number3 .ensures))
 
 pub put-answer-spec : {M : Type 1} → statement M
 put-answer-spec =

@@ -32,7 +32,8 @@ same-length c = search needs
 returns : tie.Need-returns
 unfolding line replyLine
 returns c =
-    let fits = c .before .before .before .before .before .before .before .before .before .before .before .before .before .before .before .before .before .before .before .before .before .before .before .before .before .fits .delay in
+    let fits = c .before .before .before .before .before .before .before .before .before .before .before .before .before .before .before .before .before
+    .before .before .before .before .before .before .before .before .fits .delay in
     let e = c .before .before .before .before .before .before .put-signed .ensures in
     within-then (c .before .before .before .before .before .before .before .before .before .before .before .before .before .before .before .before .before .before .before .before .before .before .put-number .ensures)
     (within-then (c .before .before .before .before .before .before .before .before .before .before .before .before .before .before .before .before .before .before .put-number2 .ensures)

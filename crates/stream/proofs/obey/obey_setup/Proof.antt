@@ -20,7 +20,10 @@ same-length : tie.Need-same-length
 same-length c = search needs
 
 returns : tie.Need-returns
-returns c = did-of (ap (answered _ _) (c .before .before .before .before .set-up .ensures ∙ ap (setUp _) (c .before .before .before .before .before .setup-at .ensures))) (c .before .before .put-answered .ensures)
+returns c =
+    did-of
+    (ap (answered _ _) (c .before .before .before .before .set-up .ensures ∙ ap (setUp _) (c .before .before .before .before .before .setup-at .ensures)))
+    (c .before .before .put-answered .ensures)
 
 pub obey-setup-spec : {M : Type 1} → statement M
 obey-setup-spec =

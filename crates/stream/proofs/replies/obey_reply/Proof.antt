@@ -4,7 +4,7 @@ use native.Mathlib.Omega.{arith}
 use mathlib.Core.Path.{ap, _∙_}
 use lib.ListN.{length, take, replicate, length-take}
 use Rattle.reader_rules.specs.declared.fields.Reply.{Reply}
-use Rattle.station_rules.specs.Replies.{replied}
+use Rattle.station_rules.specs.Replies.{received, replied}
 use Rattle.stream_rules.specs.Step.{partOf, repliedTo, replyTo}
 use Rattle.stream.proofs.Steps.{did-of, in-order, front-zeros}
 use borrow.Author.Needs.{needs}
@@ -70,7 +70,7 @@ returns c =
     did-of
     (ap (repliedTo _ _)
     (x .take-reply .ensures
-    ∙ ap (λ (q : Reply). replied (s .args .st) (q .entry) (q .tag) (partOf (s .args .s .now) (q .message) (q .marks)) (partOf (s .args .s .now) (q .marks) (q .end)) (take (m .message-length .result) (replicate 14 0))) (read m .reply-at .ensures)
+    ∙ ap (λ (q : Reply). replied (s .args .st) (received (q .entry) (q .tag) (partOf (s .args .s .now) (q .message) (q .marks)) (partOf (s .args .s .now) (q .marks) (q .end)) (take (m .message-length .result) (replicate 14 0)))) (read m .reply-at .ensures)
     ∙ ap (replyTo (s .args .s .now) (s .args .kind) (s .args .b) (s .args .st)) lent))
     (p .put-replied .ensures)
 

@@ -17,7 +17,10 @@ same-length : tie.Need-same-length
 same-length c = search needs
 
 returns : tie.Need-returns
-returns c = did-lines 36 (omega arith) refl (reply-refused _ _ (told (c .before .before .before .before .before .before .before .before .args .r) []) (c .before .before .before .before .if1 .taken)) (c .before .before .put-answer .ensures)
+returns c =
+    did-lines 36 (omega arith) refl
+    (reply-refused _ _ (told (c .before .before .before .before .before .before .before .before .args .r) []) (c .before .before .before .before .if1 .taken))
+    (c .before .before .put-answer .ensures)
 
 put-reply-answer-requires : tie.Need-put-reply-answer-requires
 put-reply-answer-requires c κs = search needs
@@ -29,7 +32,8 @@ returns-2 : tie.Need-returns-2
 returns-2 c =
     let r = c .before .before .before .before .before .before .before .before .before .args .r in
     let whole = toZ-ofZ w32 (r .delay) (record { sfits = c .before .before .before .struct-told .given .1 .1 .0 .1 }) in
-    did-lines 60 (omega arith) refl (reply-taken _ _ (told r []) (c .before .before .before .before .before .if1 .left)) (rw whole at (c .before .before .put-reply-answer .ensures))
+    did-lines 60 (omega arith) refl (reply-taken _ _ (told r []) (c .before .before .before .before .before .if1 .left))
+    (rw whole at (c .before .before .put-reply-answer .ensures))
 
 pub put-replied-spec : {M : Type 1} → statement M
 put-replied-spec =

@@ -9,7 +9,8 @@ use Rattle.stream.proofs.report.put_report.Statement.{statement}
 use Rattle.stream.proofs.report.put_report.Tie as tie
 
 -- the line is AC with its age, then ID with its age
-joined : (ac id : Value) → (followed (valueWord ac) 32 ++ followed (ageWord ac) 32) ++ (followed (valueWord id) 32 ++ followed (ageWord id) 10) ≡ reportLine ac id
+joined : (ac id : Value)
+    → (followed (valueWord ac) 32 ++ followed (ageWord ac) 32) ++ (followed (valueWord id) 32 ++ followed (ageWord id) 10) ≡ reportLine ac id
 unfolding line reportLine
 joined ac id = append-assoc (followed (valueWord ac) 32) (followed (ageWord ac) 32) (followed (valueWord id) 32 ++ followed (ageWord id) 10)
 
@@ -23,7 +24,8 @@ same-length : tie.Need-same-length
 same-length c = search needs
 
 returns : tie.Need-returns
-returns c = within-of (joined _ _) (within-then (c .before .before .before .before .before .before .put-value .ensures) (c .before .before .put-value2 .ensures))
+returns c =
+    within-of (joined _ _) (within-then (c .before .before .before .before .before .before .put-value .ensures) (c .before .before .put-value2 .ensures))
 
 pub put-report-spec : {M : Type 1} → statement M
 put-report-spec = tie.close (tie.spec put-value-requires put-value-requires-2 same-length returns)

@@ -34,14 +34,18 @@ same-length c = search needs
 
 returns : tie.Need-returns
 unfolding valueWord ageWord
-returns c = rw (c .before .before .before .before .before .before .before .before .enum-told .given .1) (within-then (c .before .before .before .before .before .before .put-dash .ensures) (c .before .before .put-dash2 .ensures))
+returns c =
+    rw (c .before .before .before .before .before .before .before .before .enum-told .given .1)
+    (within-then (c .before .before .before .before .before .before .put-dash .ensures) (c .before .before .put-dash2 .ensures))
 
 same-length-2 : tie.Need-same-length-2
 same-length-2 c = search needs
 
 returns-2 : tie.Need-returns-2
 unfolding valueWord ageWord
-returns-2 c = rw (c .before .before .before .before .before .before .before .before .before .v .given .1) (within-then (c .before .before .before .before .before .before .put-number .ensures) (c .before .before .put-number2 .ensures))
+returns-2 c =
+    rw (c .before .before .before .before .before .before .before .before .before .v .given .1)
+    (within-then (c .before .before .before .before .before .before .put-number .ensures) (c .before .before .put-number2 .ensures))
 
 pub put-value-spec : {M : Type 1} → statement M
 put-value-spec =

@@ -23,7 +23,8 @@ returns : tie.Need-returns
 returns c =
     let n = c .before .before .before .before .before .before .before .before .before .args .n in
     let d : length (decimal n) ≤ 10 = decimal-fits n (omega arith) in
-    within 12 (simp length-append (omega (arith, d))) (put-then (c .before .before .before .before .before .before .put-decimal .ensures) (c .before .before .put-byte .ensures))
+    within 12 (simp length-append (omega (arith, d)))
+    (put-then (c .before .before .before .before .before .before .put-decimal .ensures) (c .before .before .put-byte .ensures))
 
 pub put-number-spec : {M : Type 1} → statement M
 put-number-spec = tie.close (tie.spec put-decimal-requires put-byte-requires same-length returns)

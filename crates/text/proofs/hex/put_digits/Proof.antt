@@ -23,7 +23,8 @@ same-length c = search needs
 returns : tie.Need-returns
 returns c =
     let made = c .before .before .before .before .before .hex .ensures in
-    put-of (hex-of-kit _ _ _ _ (c .before .before .before .before .before .before .before .before .pre) (made .1 .0) (made .1 .1)) (c .before .before .put-upper .ensures)
+    put-of (hex-of-kit _ _ _ _ (c .before .before .before .before .before .before .before .before .pre) (made .1 .0) (made .1 .1))
+    (c .before .before .put-upper .ensures)
 
 pub put-digits-spec : {M : Type 1} → statement M
 put-digits-spec =

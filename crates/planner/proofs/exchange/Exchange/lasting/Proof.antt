@@ -25,7 +25,7 @@ returns : tie.Need-returns
 returns c = let w = c .before .before .wide .ensures in
     let v = c .before .wide2 .ensures in
     let r = c .reply .ensures in
-    (rw (w .0, v .0, r .0), search needs)
+    (rw (w, v, r .0), search needs)
 
 pub lasting-spec : {M : Type 1} → statement M
 lasting-spec =
