@@ -6,17 +6,16 @@ use mathlib.Core.Bool.{Bool, true, false}
 use mathlib.Core.List.{List, [], _∷_}
 use lib.Dec.{eqb}
 use lib.ListN.{length, getD, take, drop}
-use borrow.Author.Tests.{eq-eqb, ne-eqb}
+use borrow.Author.Tests.{eq-eqb, ne-eqb, lt-ltb, le-ltb}
 use Rattle.lists.specs.Lists.{pick}
 use Rattle.text_rules.specs.Line.{wordsOf, within, sameAs, LineHeld, NthWord}
 use Rattle.text_rules.specs.Put.{Put}
 use Rattle.text_rules.specs.declared.answer.Span.{Span}
 use Rattle.text_rules.proofs.Laid.{put-none}
-use Rattle.text_rules.proofs.Run.{took}
 use Rattle.console_plain.proofs.Texts.{word-of}
 use Rattle.console_rules.proofs.Short.{unread-fits, remainder-fits, overlay-fits, correct-fits, build-fits}
 use Rattle.console_rules.proofs.Short.{all-call-frame-fits, up-fits, down-fits, code-fits, feet-fits}
-use Rattle.console_rules.specs.Texts.{word, unread}
+use Rattle.console_rules.specs.Texts.{word, unread, tooLong, isTooLong}
 use Rattle.console_rules.specs.declared.state.Aircraft.{Aircraft}
 use Rattle.console_rules.specs.declared.state.Shown.{Shown}
 use Rattle.console_rules.specs.declared.names.Command.{Command}
@@ -25,7 +24,7 @@ use Rattle.console_rules.specs.declared.names.Command.the-variants.{Unknown}
 use Rattle.console_rules.specs.Names.{table, rowCount, rowAt, commandIn, commandOf, wordsFor}
 use Rattle.console_rules.proofs.Table.{row-taken, row-passed, no-rows}
 use Rattle.console_rules.specs.Aircraft.{saying, Showed}
-use Rattle.console_rules.specs.Console.{Answered, comment, callSaid, countedSaid, commandSaid, wordsSaid, lineSaid, lineText, lineLeaves}
+use Rattle.console_rules.specs.Console.{comment, callSaid, countedSaid, commandSaid, wordsSaid, lineSaid, lineText, lineLeaves}
 
 -- the first byte of a word
 pub comment-none : (w : List ℕ) → length w ≡ 0 → false ≡ comment w
@@ -49,24 +48,15 @@ stays e p h = rw e (record { text-put = p; aircraft = refl; short = h })
 pub stays-silent : {a : Aircraft} {l : List ℕ} {r : Shown} → r ≡ record { size = 0; aircraft = a } → Showed (saying [] a) l l r
 stays-silent {a} {l} e = stays e (put-none 0 l (omega arith)) (omega arith)
 
--- the line's span found, what it says shown, and the place behind it: the line was answered
-pub answered-line : (a : Aircraft) {s : List ℕ} {at : ℕ} {before after : List ℕ} {w : Span} {n : ℕ} {x : Shown}
-    → LineHeld s at w → n ≡ min (length s) (w .to + 1) → Showed (lineSaid a (take (w .to - w .from) (drop (w .from) s))) before after x
-    → Answered a s at before after (record { next = n; size = x .size; aircraft = x .aircraft })
-unfolding within
-answered-line a h e p =
-    record {
-      line-taken = took (lineText a) h e (p .text-put);
-      aircraft = p .aircraft ∙ ap (lineLeaves a) (h .text);
-      short = rw (h .text) at (p .short);
-    }
-
 -- `search fits` finds that a text fits
+pub too-long-fits : length tooLong ≤ 512
+too-long-fits = omega arith
+
 pub help-fits : length helpText ≤ 512
 help-fits = omega arith
 
 pub ruleset fits =
-    (unread-fits, remainder-fits, overlay-fits, correct-fits, build-fits, all-call-frame-fits, up-fits, down-fits, code-fits, feet-fits, help-fits)
+    (unread-fits, too-long-fits, remainder-fits, overlay-fits, correct-fits, build-fits, all-call-frame-fits, up-fits, down-fits, code-fits, feet-fits, help-fits)
 
 -- ---- the call that the first word names
 
@@ -123,8 +113,7 @@ answered-by a [] n h = absurd (n refl)
 answered-by a (w ∷ ws) n h = rw h
 
 pub no-words : (a : Aircraft) (line : List ℕ) {n : ℕ} {l m : List ℕ} {s : Shown} → n ≡ length (wordsOf line) → n ≡ 0 → Showed (saying [] a) l m s
-    → Showed (lineSaid a line) l m s
-unfolding lineSaid
+    → Showed (wordsSaid a (wordsOf line)) l m s
 no-words a line e h p = rw (none-by a (wordsOf line) (sym e ∙ h)) p
 
 module _ (line : List ℕ) {w : Span} {b : Bool} (first : NthWord line 0 w) (told : b ≡ comment (take (w .to - w .from) (drop (w .from) line))) where
@@ -132,13 +121,21 @@ module _ (line : List ℕ) {w : Span} {b : Bool} (first : NthWord line 0 w) (tol
   at-first h = ap comment (sym (word-of first)) ∙ sym told ∙ h
 
   module _ (a : Aircraft) {l m : List ℕ} {s : Shown} where
-    pub silent : b ≡ true → Showed (saying [] a) l m s → Showed (lineSaid a line) l m s
-    unfolding lineSaid
+    pub silent : b ≡ true → Showed (saying [] a) l m s → Showed (wordsSaid a (wordsOf line)) l m s
     silent h p = rw (silent-by a (wordsOf line) (at-first h)) p
 
     pub answered : {n : ℕ} → b ≡ false → n ≡ length (wordsOf line) → (n ≡ 0 → ⊥) → Showed (commandSaid a (wordsOf line)) l m s
-        → Showed (lineSaid a line) l m s
-    unfolding lineSaid
+        → Showed (wordsSaid a (wordsOf line)) l m s
     answered h e k p = rw (answered-by a (wordsOf line) (λ z. k (e ∙ z)) (at-first h)) p
 
 pub ruleset lines = (no-words, silent, answered)
+
+-- ---- a whole line: too long, or by its words
+module _ (a : Aircraft) (line : List ℕ) {l m : List ℕ} {s : Shown} where
+  pub long-line : 1000 < length line → Showed (saying tooLong a) l m s → Showed (lineSaid a line) l m s
+  unfolding lineSaid
+  long-line h p = rw (lt-ltb 1000 (length line) h) p
+
+  pub short-line : length line ≤ 1000 → Showed (wordsSaid a (wordsOf line)) l m s → Showed (lineSaid a line) l m s
+  unfolding lineSaid
+  short-line h p = rw (le-ltb 1000 (length line) h) p

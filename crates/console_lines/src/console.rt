@@ -1,15 +1,14 @@
-// The lines of the console: the call that a line's first word names, and the lines of an input one after the other.
+// The lines of the console: the call that a line's first word names, and what a whole line says.
 ghost use mathlib.Core.Path.{_≡_};
 ghost use Rattle.text_rules.specs.Line.{wordsOf};
 ghost use Rattle.console_rules.specs.Texts.{word};
 ghost use Rattle.console_rules.specs.Aircraft.{Showed};
-ghost use Rattle.console_rules.specs.Console.{Answered, callSaid, commandSaid, comment, lineSaid};
+ghost use Rattle.console_rules.specs.Console.{callSaid, commandSaid, comment, wordsSaid, lineSaid};
 use crate::help::put_help;
 use crate::names::find_command;
 use crate::names::words_for;
 use console_rules::Aircraft;
 use console_rules::Command;
-use console_rules::Served;
 use console_rules::Shown;
 
 // A text was laid, and the aircraft stays as it was.
@@ -64,9 +63,9 @@ fn is_comment(word: &[u8]) -> bool
     word[0] == 35
 }
 
-// What a line says.
-fn put_line(line: &[u8], a: Aircraft, out: &mut [u8]) -> Shown
-    ensures { λ r. ⌜ Showed (lineSaid a (now (line .entry))) (now (out .entry)) (now (out .exit)) r ⌝ }
+// What a line says that is not too long.
+fn put_words(line: &[u8], a: Aircraft, out: &mut [u8]) -> Shown
+    ensures { λ r. ⌜ Showed (wordsSaid a (wordsOf (now (line .entry)))) (now (out .entry)) (now (out .exit)) r ⌝ }
 {
     if text::word_count(line) == 0 {
         return stay(0, a);
@@ -80,20 +79,12 @@ fn put_line(line: &[u8], a: Aircraft, out: &mut [u8]) -> Shown
     put_command(line, &line[from..to], a, out)
 }
 
-// The line of s that begins at a place, as the text that the console prints for it, and the aircraft that it leaves.
-pub fn console_line(a: Aircraft, s: &[u8], at: usize, out: &mut [u8]) -> Served
-    ensures { λ r. ⌜ Answered a (now (s .entry)) at (now (out .entry)) (now (out .exit)) r ⌝ }
+// A line as the text that the console prints for it, and the aircraft that it leaves.
+pub fn console_line(a: Aircraft, line: &[u8], out: &mut [u8]) -> Shown
+    ensures { λ r. ⌜ Showed (lineSaid a (now (line .entry))) (now (out .entry)) (now (out .exit)) r ⌝ }
 {
-    let line = text::line_at(s, at);
-    let from = line.from;
-    let to = line.to;
-    let shown = put_line(&s[from..to], a, out);
-    let next = text::line_after(s, to);
-    let size = shown.size;
-    let aircraft = shown.aircraft;
-    Served {
-        next,
-        size,
-        aircraft,
+    if 1000 < line.len() {
+        return stay(console_plain::put_too_long(out), a);
     }
+    put_words(line, a, out)
 }

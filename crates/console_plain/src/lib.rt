@@ -1,4 +1,5 @@
-// The lines of the bench console that need no state, as their very bytes: each is one call of the library, and its answer in text. Their definitions stand in crate console_rules.
+// The lines of the bench console that need no state, as their very bytes: each is one call of the library, and its answer in text.
+// Their definitions stand in crate console_rules.
 mod answers;
 mod building;
 mod code;
@@ -10,6 +11,7 @@ mod values;
 mod words;
 
 pub use answers::put_refusal;
+pub use answers::put_too_long;
 pub use answers::put_unread;
 pub use building::put_all_call_frame;
 pub use building::put_build;

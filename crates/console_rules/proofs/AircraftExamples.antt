@@ -8,9 +8,8 @@ use Rattle.lists.specs.Lists.{over}
 use Rattle.lists.specs.Checks.{checked}
 use Rattle.text_rules.specs.Plain.{plain}
 use Rattle.text_rules.specs.Put.{decimalIn, decimal}
-use Rattle.text_rules.specs.Line.{blank, newline, grown, parts, full, linesOf, wordsOf, sameAs}
-use Rattle.text_rules.specs.Number.{between, isDigit, allDigits, valueAfter, numberIn}
-use Rattle.text_rules.specs.Hex.{hexDigit, hexIn, hexOf, hexValue, allHex, pairs, isHex, bytesIn}
+use Rattle.text_rules.specs.Line.{newline, linesOf}
+use Rattle.text_rules.specs.Hex.{hexDigit, hexIn, hexOf}
 use Rattle.parity_rules.specs.Messages.{bits}
 use Rattle.parity_rules.specs.Division.{shiftIn, divide, remainderOf}
 use Rattle.parity_rules.specs.Overlays.{lowBits, times, overlayOf}
@@ -26,10 +25,11 @@ use Rattle.model_rules.specs.Lockout.{startedByLOS, startedByLSS, commandOfSD, 
 use Rattle.model_rules.specs.CommB.{reserve, closeout}
 use Rattle.model_rules.specs.Replies.{sending, respond, drawsBelow, answers, answerAllCall}
 use Rattle.model_rules.specs.Calls.{newborn, makeRanged, making, queuing, steps, interrogated, laidOver, selectiveComes, allCallComes, comes, taking}
-use Rattle.console_rules.specs.Texts.{word, ofNumber, ofBytes, doneText, refusalText, answerText}
-use Rattle.console_rules.specs.Aircraft.{unmade, whenMade, madeSaid, modelSaid, queuedSaid, queueSaid, sentText, tookSaid, sendSaid, holderText, timerText, lockText, locksText, stateText, stateSaid}
-use Rattle.console_rules.specs.Names.{table, commandIn, commandOf, wordsFor}
-use Rattle.console_rules.specs.Console.{callSaid, countedSaid, commandSaid, comment, wordsSaid, lineSaid, linesText, consoleText}
+use Rattle.console_rules.specs.Texts.{doneText, refusalText, answerText}
+use Rattle.console_rules.specs.Aircraft.{unmade, whenMade, madeSaid, modelSaid, queuedSaid, queueSaid, sentText, tookSaid, sendSaid, holderText}
+use Rattle.console_rules.specs.Aircraft.{timerText, lockText, locksText, stateText, stateSaid}
+use Rattle.console_rules.specs.Console.{linesText, consoleText}
+use Rattle.console_rules.proofs.Examples.{Reading}
 
 -- a line and what it prints, both as quoted texts without their newlines
 record Told : Type 0 where
@@ -124,5 +124,10 @@ refusals =
     ∷ []
 
 runs-printed : Printed begun × Printed locking × Printed codes × Printed delivery × Printed refusals
-unfolding checked consoleText linesText linesOf newline lineSaid wordsSaid commandSaid countedSaid callSaid comment commandOf commandIn table wordsFor word wordsOf parts full grown blank sameAs ofNumber ofBytes numberIn allDigits valueAfter bytesIn isHex allHex hexValue pairs isDigit between answerText doneText refusalText decimal decimalIn hexIn hexOf hexDigit bits shiftIn divide remainderOf lowBits times overlayOf selectiveRanged replyRanged allCallReplyRanged aReply anAllCallReply replying allCallReplying headOf midOf replyHead allCallReplyHead front sealed codeFor drawn over started messagesWith messagesAfter timerAfter timersAfter lapse startedByLOS startedByLSS commandOfSD commanded lockout lockedTo reserve closeout sending respond drawsBelow answers answerAllCall newborn makeRanged making queuing steps interrogated laidOver taking unmade whenMade madeSaid modelSaid queuedSaid queueSaid sentText tookSaid sendSaid holderText timerText lockText locksText stateText stateSaid upOf selectiveComes allCallComes comes
+unfolding Reading checked consoleText linesText linesOf newline answerText doneText refusalText decimal decimalIn hexIn hexOf hexDigit bits shiftIn divide
+    remainderOf lowBits times overlayOf selectiveRanged replyRanged allCallReplyRanged aReply anAllCallReply replying allCallReplying headOf midOf replyHead
+    allCallReplyHead front sealed codeFor drawn over started messagesWith messagesAfter timerAfter timersAfter lapse startedByLOS startedByLSS commandOfSD
+    commanded lockout lockedTo reserve closeout sending respond drawsBelow answers answerAllCall newborn makeRanged making queuing steps interrogated
+    laidOver taking unmade whenMade madeSaid modelSaid queuedSaid queueSaid sentText tookSaid sendSaid holderText timerText lockText locksText stateText
+    stateSaid upOf selectiveComes allCallComes comes
 runs-printed = (refl, refl, refl, refl, refl)

@@ -26,7 +26,8 @@ use Rattle.console_rules.specs.FeetLines as feet
 use Rattle.console_rules.specs.Texts.{word, numberWord, bytesAt, ofNumber, ofBytes, doneText, refusalText, answerText}
 use Rattle.console_rules.specs.Parity.{reckonedText, correctedText, remainderText, overlayText, fixedText, correctText}
 use Rattle.console_rules.specs.Building.{builtText, selectiveText, buildText, allCallText}
-use Rattle.console_rules.specs.Frames.{numberText, fieldsText, endText, numbersText, valuesText, readText, replyText, interrogationText, upText, downText, codeWord, whoseText, codeText}
+use Rattle.console_rules.specs.Frames.{numberText, fieldsText, endText, numbersText, valuesText, readText, replyText, interrogationText, upText}
+use Rattle.console_rules.specs.Frames.{downText, codeWord, whoseText, codeText}
 use Rattle.console_rules.specs.Feet.{feetText}
 use Rattle.console_rules.specs.Aircraft.{unmade, whenMade, stateSaid, queueSaid, sendSaid}
 use Rattle.console_rules.specs.Names.{table, commandIn, commandOf, wordsFor}
@@ -47,6 +48,12 @@ words-read :
 unfolding word wordsOf parts full grown blank sameAs numberIn allDigits valueAfter bytesIn isHex allHex hexValue pairs isDigit between
 words-read = (refl, refl, refl, refl, refl, refl)
 
+-- how a line is read, for every claim below: its words, its command, its numbers and bytes
+unfoldable pub Reading : Type 0
+unfolding lineSaid wordsSaid commandSaid countedSaid callSaid comment commandOf commandIn table wordsFor word wordsOf parts full grown blank sameAs ofNumber
+    ofBytes numberIn allDigits valueAfter bytesIn isHex allHex hexValue pairs isDigit between
+Reading = Unit {0}
+
 -- ---- parity: published frames, the starred corrections and overlays of document 01, lengths and numbers out of their ranges
 parity-lines :
     Prints "remainder 5D484FDEA248F5" "0 000016\n"
@@ -60,7 +67,9 @@ parity-lines :
     × Prints "correct 8000000200000000000000000002 8000000200000000000000000000 0 5" "12\n"
     × Prints "correct 8000000200000000000000000002 8000000200000000000000000002 0 2" "11\n"
     × Prints "correct 0000000000000000000000000000 0000000000000000000000000002 2 5" "0 0000000000000000000000000002 1\n"
-unfolding filter checked remainderAnswer uplinkOverlay lineSaid wordsSaid commandSaid countedSaid callSaid comment commandOf commandIn table wordsFor word wordsOf parts full grown blank sameAs ofNumber ofBytes numberIn allDigits valueAfter bytesIn isHex allHex hexValue pairs isDigit between answerText doneText refusalText decimal decimalIn hexIn hexOf hexDigit bits shiftIn divide remainderOf lowBits times overlayOf syndrome sizeOf subsets xorOf matching flipped correction reckonedText correctedText remainderText overlayText fixedText correctText
+unfolding Reading filter checked remainderAnswer uplinkOverlay answerText doneText refusalText decimal decimalIn hexIn hexOf hexDigit bits shiftIn divide
+    remainderOf lowBits times overlayOf syndrome sizeOf subsets xorOf matching flipped correction reckonedText correctedText remainderText overlayText
+    fixedText correctText
 parity-lines = (refl, refl, refl, refl, refl, refl, refl, refl, refl, refl, refl)
 
 -- ---- interrogations built: the fields by their bit numbers, the address over the uplink; 2 for another UF, 1 for an MA not of seven bytes
@@ -71,7 +80,9 @@ building-lines :
     × Prints "build 4 0 0 0 0 000000000000 1" "1\n"
     × Prints "allcall 1 9 2" "0 58CA00005FB57F\n"
     × Prints "allcall 16 0 0" "2\n"
-unfolding checked lineSaid wordsSaid commandSaid countedSaid callSaid comment commandOf commandIn table wordsFor word wordsOf parts full grown blank sameAs ofNumber ofBytes numberIn allDigits valueAfter bytesIn isHex allHex hexValue pairs isDigit between answerText doneText refusalText decimal decimalIn hexIn hexOf hexDigit bits shiftIn divide remainderOf lowBits times overlayOf selectiveRanged allCallRanged selective allCall building allCalling headOf midOf selectiveHead allCallHead front sealed builtText selectiveText buildText allCallText
+unfolding Reading checked answerText doneText refusalText decimal decimalIn hexIn hexOf hexDigit bits shiftIn divide remainderOf lowBits times overlayOf
+    selectiveRanged allCallRanged selective allCall building allCalling headOf midOf selectiveHead allCallHead front sealed builtText selectiveText
+    buildText allCallText
 building-lines = (refl, refl, refl, refl, refl, refl)
 
 -- ---- frames read: those interrogations again, published replies, and whose code a DF 11 carries for an SI station that permits its matching II or not
@@ -88,7 +99,9 @@ frame-lines :
     × Prints "code 5D484FDEA248E5 1 6 1" "0 matching\n"
     × Prints "code 5D484FDEA248E5 1 6 0" "0 other\n"
     × Prints "code 5D484FDEA248F5 1 6 2" "2\n"
-unfolding checked lineSaid wordsSaid commandSaid countedSaid callSaid comment commandOf commandIn table wordsFor word wordsOf parts full grown blank sameAs ofNumber ofBytes numberIn allDigits valueAfter bytesIn isHex allHex hexValue pairs isDigit between answerText doneText refusalText decimal decimalIn hexIn hexOf hexDigit bits shiftIn divide remainderOf headOf midOf readAs selectiveRead allCallRead surveillanceRead allCallReplyRead whose codeOf numberText fieldsText endText numbersText valuesText readText replyText interrogationText upText downText codeWord whoseText codeText
+unfolding Reading checked answerText doneText refusalText decimal decimalIn hexIn hexOf hexDigit bits shiftIn divide remainderOf headOf midOf readAs
+    selectiveRead allCallRead surveillanceRead allCallReplyRead whose codeOf numberText fieldsText endText numbersText valuesText readText replyText
+    interrogationText upText downText codeWord whoseText codeText
 frame-lines = (refl, refl, refl, refl, refl, refl, refl, refl, refl, refl, refl, refl)
 
 -- ---- altitudes: published codes, none, metric, an illegal pattern, and a code of 14 bits
@@ -100,7 +113,8 @@ feet-lines :
     × Prints "feet 64" "0 metric\n"
     × Prints "feet 1" "18\n"
     × Prints "feet 8192" "2\n"
-unfolding lineSaid wordsSaid commandSaid countedSaid callSaid comment commandOf commandIn table wordsFor word wordsOf parts full grown blank sameAs ofNumber ofBytes numberIn allDigits valueAfter bytesIn isHex allHex hexValue pairs isDigit between decimal decimalIn signedDecimal eleven feetBy25 grayValue eight fiveHundreds group hundreds feetBy100 formOf altitude feet.valueText feet.answerText feetText
+unfolding Reading decimal decimalIn signedDecimal eleven feetBy25 grayValue eight fiveHundreds group hundreds feetBy100 formOf altitude feet.valueText
+    feet.answerText feetText
 feet-lines = (refl, refl, refl, refl, refl, refl, refl)
 
 -- ---- lines that cannot be read, aircraft's lines before any model, and lines that print nothing
@@ -117,5 +131,5 @@ unread-lines :
     × Prints "send 0 0 5808000024E102" "?\n"
     × Prints "" ""
     × Prints "  # remainder" ""
-unfolding lineSaid wordsSaid commandSaid countedSaid callSaid comment commandOf commandIn table wordsFor word wordsOf parts full grown blank sameAs ofNumber ofBytes numberIn allDigits valueAfter bytesIn isHex allHex hexValue pairs isDigit between answerText doneText refusalText decimal decimalIn hexIn hexOf hexDigit overlayText remainderText unmade whenMade stateSaid queueSaid sendSaid
+unfolding Reading answerText doneText refusalText decimal decimalIn hexIn hexOf hexDigit overlayText remainderText unmade whenMade stateSaid queueSaid sendSaid
 unread-lines = (refl, refl, refl, refl, refl, refl, refl, refl, refl, refl, refl, refl)

@@ -1,48 +1,63 @@
--- The whole run of the console: each line's text stands whole in the buffer, and what a run prints is the definition's text.
-use Prim.Native.Nat.{ℕ, _+_, _-_, _≤_, _<_}
-use native.Mathlib.Omega.{arith, min-cases}
-use mathlib.Core.Path.{_≡_, sym, ap, _∙_}
-use mathlib.Core.List.{List, [], _++_}
-use lib.ListN.{length, take, drop}
-use Rattle.text_rules.specs.Line.{lineAt, lineEnd, linesOf}
-use Rattle.text_rules.proofs.Lines.{lines-next, lines-end}
-use Rattle.text_rules.proofs.Run as run
+-- The whole run of the console: each line's text stands whole in the buffer, and what a run prints is the definition's text, however the input comes.
+use Prim.Native.Nat.{ℕ, suc, _≤_}
+use native.Mathlib.Omega.{arith}
+use mathlib.Core.Path.{_≡_, refl, sym, ap, _∙_}
+use mathlib.Core.Bool.{Bool, true, false}
+use mathlib.Core.List.{List, [], _∷_, _++_}
+use lib.Dec.{ltb}
+use lib.ListN.{length, take, replicate, length-take}
+use lib.Seq.{take-all}
+use borrow.Author.Tests.{ltb-true, ltb-false, lt-ltb}
+use Rattle.text_rules.specs.Line.{blank, grown, parts, full, linesOf, wordsOf}
+use Rattle.text_rules.specs.Pieces.{together}
+use Rattle.text_rules.proofs.Laid.{read-off}
+use Rattle.text_rules.proofs.Pieces as pieces
 use Rattle.console_rules.specs.declared.state.Aircraft.{Aircraft}
-use Rattle.console_rules.specs.Aircraft.{unmade}
-use Rattle.console_rules.specs.declared.console.Served.{Served}
-use Rattle.console_rules.specs.Console.{Answered, lineText, linesText, consoleText}
+use Rattle.console_rules.specs.declared.state.Shown.{Shown}
+use Rattle.console_rules.specs.Texts.{tooLong, isTooLong}
+use Rattle.console_rules.specs.Aircraft.{Said, saying, unmade, Showed}
+use Rattle.console_rules.specs.FeetLines as feet
+use Rattle.console_rules.specs.Console.{wordsSaid, lineSaid, lineText, lineLeaves, linesText, consoleText}
 
-module _ {a : Aircraft} {s : List ℕ} {at : ℕ} {before after : List ℕ} {r : Served} (t : Answered a s at before after r) where
-  -- with 512 bytes lent, what the call leaves at the buffer's front is the whole text of the line
-  pub line-stands : 512 ≤ length before → take (r .size) after ≡ lineText a (lineAt s at)
-  line-stands h = run.line-stands (lineText a) (t .line-taken) (omega (arith, t .short))
+-- with 512 bytes lent, what the call leaves at the buffer's front is the whole text of the line
+pub line-stands : (a : Aircraft) (line : List ℕ) {before after : List ℕ} {r : Shown} → Showed (lineSaid a line) before after r → 512 ≤ length before
+    → take (r .size) after ≡ lineText a line
+line-stands a line p h = read-off (p .text-put) (omega (arith, p .short))
 
-  -- a step goes on, so a run ends
-  pub goes-on : at < length s → length s - r .next < length s - at
-  goes-on h = run.goes-on (lineText a) (t .line-taken) h
+-- ---- of a line that is too long 1001 bytes say as much as all of them
+long-said : (a : Aircraft) (l : List ℕ) → isTooLong l ≡ true → lineSaid a l ≡ saying tooLong a
+unfolding lineSaid
+long-said a l e = rw e
 
-  -- the lines behind the one that was taken
-  lines-after : linesOf (drop (r .next) s) ≡ linesOf (drop (lineEnd s at + 1) s)
-  lines-after =
-      min-cases (length s) (lineEnd s at + 1) _
-      (λ h e. lines-end s (r .next) (omega (arith, t .line-taken .next)) ∙ sym (lines-end s (lineEnd s at + 1) h))
-      (λ h e. ap (λ (k : ℕ). linesOf (drop k s)) (t .line-taken .next ∙ e))
+pub same-said : (a : Aircraft) (l : List ℕ) → lineSaid a (take 1001 l) ≡ lineSaid a l
+same-said a l = go (isTooLong l) refl
+  where
+    go : (b : Bool) → isTooLong l ≡ b → lineSaid a (take 1001 l) ≡ lineSaid a l
+    go true e =
+        let h = ltb-true 1000 (length l) e in
+        long-said a (take 1001 l) (lt-ltb 1000 (length (take 1001 l)) (simp length-take (omega arith))) ∙ sym (long-said a l e)
+    go false e = ap (lineSaid a) (take-all 1001 l (omega (arith, ltb-false 1000 (length l) e)))
 
--- a run over the input s, with an aircraft and from a place on, and what it prints: at the end nothing; before it the line at the place is
--- answered into 512 bytes, what stands there is printed, and the run goes on at the next place with the aircraft that the line left
-pub data Ran (s : List ℕ) : Aircraft → ℕ → List ℕ → Type 0 where
-  ended : {a : Aircraft} (at : ℕ) → length s ≤ at → Ran s a at []
-  went-on : (a : Aircraft) (at : ℕ) {before after : List ℕ} (r : Served) {rest : List ℕ} → at < length s → 512 ≤ length before → Answered a s at before after r
-      → Ran s (r .aircraft) (r .next) rest → Ran s a at (take (r .size) after ++ rest)
+-- ---- the run: what it holds of a line, the pieces that come, and what it prints
+abbrev pub Ran : Aircraft → List ℕ → List (List ℕ) → List ℕ → Type 0
+Ran =
+    pieces.Ran 1000 lineText lineLeaves (λ a l. ap (λ (s : Said). s .text) (same-said a l)) (λ a l. ap (λ (s : Said). s .aircraft) (same-said a l))
 
-module _ {s : List ℕ} where
-  prints : {a : Aircraft} {at : ℕ} {t : List ℕ} → Ran s a at t → t ≡ linesText a (linesOf (drop at s))
-  unfolding linesText
-  prints (ended at h) = rw (lines-end s at h)
-  prints (went-on a at r h b w more) =
-      rw (lines-next s at h, line-stands w b, ← lines-after w, ← (w .aircraft)) (ap (λ (l : List ℕ). lineText a (lineAt s at) ++ l) (prints more))
+texts-are : (a : Aircraft) (ls : List (List ℕ)) → pieces.saidOf lineText lineLeaves a ls ≡ linesText a ls
+unfolding pieces.saidOf linesText
+texts-are a [] = refl
+texts-are a (l ∷ ls) = ap (λ (t : List ℕ). lineText a l ++ t) (texts-are (lineLeaves a l) ls)
 
--- a run from the first place on, with no aircraft at first, prints the text of the definition
-pub whole-run : (s t : List ℕ) → Ran s unmade 0 t → t ≡ consoleText s
+-- from the first piece on, with no aircraft at first, it prints the text of the definition for the whole input
+pub whole-run : {ps : List (List ℕ)} {t : List ℕ} → Ran unmade [] ps t → t ≡ consoleText (together ps)
 unfolding consoleText
-whole-run s t r = prints r
+whole-run {ps} r =
+    pieces.whole-run 1000 lineText lineLeaves (λ a l. ap (λ (s : Said). s .text) (same-said a l)) (λ a l. ap (λ (s : Said). s .aircraft) (same-said a l)) r
+    ∙ texts-are unmade (linesOf (together ps))
+
+-- ---- worked: 1000 blanks print nothing, and 1001 are too long; so in feet
+at-the-edge :
+    (lineText unmade (replicate 1000 32) ∷ lineText unmade (replicate 1001 32) ∷ feet.lineText (replicate 1000 32) ∷ feet.lineText (replicate 1001 32) ∷ [])
+    ≡ [] ∷ tooLong ∷ [] ∷ feet.noCode ∷ []
+unfolding lineSaid wordsSaid wordsOf parts full grown blank feet.lineText feet.wordsText
+at-the-edge = refl

@@ -36,7 +36,8 @@ use Rattle.frames_rules.specs.Reading.{formatOf, readChecks, readAs, allCallRea
 use Rattle.console_rules.specs.Texts.{unread, word, numberWord, ofNumber, ofBytes, withNumber, withBytes, doneText, refusalText, answerText}
 use Rattle.console_rules.specs.Parity.{reckonedText, correctedText, remainderText, overlayText, fixedText, correctText}
 use Rattle.console_rules.specs.Building.{builtText, selectiveText, buildText, allCallText}
-use Rattle.console_rules.specs.Frames.{numberText, numbersText, fieldsText, endText, valuesText, readText, interrogationText, replyText, upText, downText, codeWord, whoseText, codeText}
+use Rattle.console_rules.specs.Frames.{numberText, numbersText, fieldsText, endText, valuesText, readText, interrogationText, replyText, upText}
+use Rattle.console_rules.specs.Frames.{downText, codeWord, whoseText, codeText}
 use Rattle.console_rules.specs.Feet.{feetText}
 
 -- the size of the buffer that the program lends
@@ -57,7 +58,8 @@ unfolding ofNumber
 with-number-fits (Is n) f h = h n
 with-number-fits Not f h = unread-fits
 
-bytes-by : (w : List ℕ) (o : Option (List ℕ)) (f : List ℕ → List ℕ) → bytesIn w ≡ o → ((bs : List ℕ) → length bs ≤ 32 → length (f bs) ≤ room) → length (withBytes o f) ≤ room
+bytes-by : (w : List ℕ) (o : Option (List ℕ)) (f : List ℕ → List ℕ) → bytesIn w ≡ o → ((bs : List ℕ) → length bs ≤ 32 → length (f bs) ≤ room)
+    → length (withBytes o f) ≤ room
 unfolding ofBytes
 bytes-by w (some bs) f e h = h bs (bytes-fit w bs e)
 bytes-by w none f e h = unread-fits
@@ -127,7 +129,8 @@ four-fits f a b r part hf ha hb =
     answer-fits 0 _ (omega arith)
     (simp length-append (omega (arith, number-fits f hf, number-fits a ha, number-fits b hb, hex-length 6 r)))
 
-five-fits : (f a b c r : ℕ) (part : List ℕ) → f < 100000000 → a < 100000000 → b < 100000000 → c < 100000000 → length (readText (done (f ∷ a ∷ b ∷ c ∷ r ∷ [])) part) ≤ room
+five-fits : (f a b c r : ℕ) (part : List ℕ) → f < 100000000 → a < 100000000 → b < 100000000 → c < 100000000
+    → length (readText (done (f ∷ a ∷ b ∷ c ∷ r ∷ [])) part) ≤ room
 unfolding readText valuesText fieldsText
 five-fits f a b c r part hf ha hb hc =
     answer-fits 0 _ (omega arith)
@@ -138,7 +141,8 @@ unfolding readText valuesText fieldsText
 refused-fits n part h = answer-fits n [] h (omega arith)
 
 -- what a reading answers, refused or one of two
-either-read : (v : Bool) (x y : Answer) (part : List ℕ) → length (readText x part) ≤ room → length (readText y part) ≤ room → length (readText (pick v x y) part) ≤ room
+either-read : (v : Bool) (x y : Answer) (part : List ℕ) → length (readText x part) ≤ room → length (readText y part) ≤ room
+    → length (readText (pick v x y) part) ≤ room
 either-read true x y part h k = h
 either-read false x y part h k = k
 

@@ -1,23 +1,21 @@
 -- The console: what a line prints and the aircraft that it leaves, by its first word, and the text of a whole run.
-use Prim.Native.Nat.{ℕ, _≤_}
-use mathlib.Core.Path.{_≡_}
+use Prim.Native.Nat.{ℕ}
 use mathlib.Core.Bool.{Bool, false}
 use mathlib.Core.List.{List, [], _∷_, _++_}
 use lib.Dec.{eqb}
 use lib.ListN.{length}
 use Rattle.lists.specs.Lists.{pick}
-use Rattle.text_rules.specs.Line.{lineAt, linesOf, wordsOf}
-use Rattle.text_rules.specs.Run.{TookLine}
-use Rattle.console_rules.specs.Texts.{word, unread}
+use Rattle.text_rules.specs.Line.{linesOf, wordsOf}
+use Rattle.console_rules.specs.Texts.{word, unread, tooLong, isTooLong}
 use Rattle.console_rules.specs.Parity.{remainderText, overlayText, correctText}
 use Rattle.console_rules.specs.Building.{buildText, allCallText}
 use Rattle.console_rules.specs.Frames.{upText, downText, codeText}
 use Rattle.console_rules.specs.Feet.{feetText}
 use Rattle.console_rules.specs.declared.state.Aircraft.{Aircraft}
 use Rattle.console_rules.specs.Aircraft.{Said, saying, unmade, modelSaid, queueSaid, sendSaid, stateSaid}
-use Rattle.console_rules.specs.declared.console.Served.{Served}
 use Rattle.console_rules.specs.declared.names.Command.{Command}
-use Rattle.console_rules.specs.declared.names.Command.the-variants.{Remainder, Overlay, Correct, Build, AllCall, Up, Down, Code, Feet, Model, Queue, Send, State, Help, Unknown}
+use Rattle.console_rules.specs.declared.names.Command.the-variants.{Remainder, Overlay, Correct, Build, AllCall, Up, Down, Code, Feet, Model, Queue}
+use Rattle.console_rules.specs.declared.names.Command.the-variants.{Send, State, Help, Unknown}
 use Rattle.console_rules.specs.Names.{commandOf, wordsFor}
 use Rattle.console_rules.specs.Help.{helpText}
 
@@ -57,9 +55,9 @@ unfoldable pub wordsSaid : Aircraft → List (List ℕ) → Said
 wordsSaid a [] = saying [] a
 wordsSaid a (w ∷ ws) = pick (comment w) (saying [] a) (commandSaid a (w ∷ ws))
 
--- what a line says, by its words
+-- what a line says: one that is too long, or by its words
 unfoldable pub lineSaid : Aircraft → List ℕ → Said
-lineSaid a line = wordsSaid a (wordsOf line)
+lineSaid a line = pick (isTooLong line) (saying tooLong a) (wordsSaid a (wordsOf line))
 
 -- what a line prints, and the aircraft that it leaves
 abbrev pub lineText : Aircraft → List ℕ → List ℕ
@@ -76,9 +74,3 @@ linesText a (l ∷ ls) = lineText a l ++ linesText (lineLeaves a l) ls
 -- the whole run: line after line, with no aircraft at first
 unfoldable pub consoleText : List ℕ → List ℕ
 consoleText s = linesText unmade (linesOf s)
-
--- the line at a place was taken, and the answer has the aircraft that it leaves; its text is at most the 512 bytes that the program lends
-pub record Answered (a : Aircraft) (s : List ℕ) (at : ℕ) (before after : List ℕ) (r : Served) : Type 0 where
-  pub line-taken : TookLine (lineText a) s at before after (record { next = r .next; size = r .size })
-  pub aircraft : r .aircraft ≡ lineLeaves a (lineAt s at)
-  pub short : length (lineText a (lineAt s at)) ≤ 512

@@ -1,6 +1,9 @@
 -- The lines of the program feet: for each line of its input, what it prints.
 use Prim.Native.Nat.{ℕ}
 use mathlib.Core.List.{List, [], _∷_, _++_}
+use lib.Dec.{ltb}
+use lib.ListN.{length}
+use Rattle.lists.specs.Lists.{pick}
 use Rattle.text_rules.specs.Put.{decimal}
 use Rattle.text_rules.specs.Plain.{plain}
 use Rattle.text_rules.specs.Signed.{signedDecimal}
@@ -43,8 +46,9 @@ wordsText [] = []
 wordsText (w ∷ []) = numberText (numberIn 9 w)
 wordsText (w ∷ v ∷ ws) = noCode
 
+-- a line longer than 1000 bytes is not read, and prints "- 2"
 unfoldable pub lineText : List ℕ → List ℕ
-lineText line = wordsText (wordsOf line)
+lineText line = pick (ltb 1000 (length line)) noCode (wordsText (wordsOf line))
 
 -- the whole run: line after line
 unfoldable pub feetText : List ℕ → List ℕ

@@ -7,7 +7,8 @@ use Rattle.lists.specs.Lists.{pick}
 use Rattle.text_rules.specs.Line.{sameAs}
 use Rattle.text_rules.specs.Plain.{plain}
 use Rattle.console_rules.specs.declared.names.Command.{Command}
-use Rattle.console_rules.specs.declared.names.Command.the-variants.{Remainder, Overlay, Correct, Build, AllCall, Up, Down, Code, Feet, Model, Queue, Send, State, Help, Unknown}
+use Rattle.console_rules.specs.declared.names.Command.the-variants.{Remainder, Overlay, Correct, Build, AllCall, Up, Down, Code, Feet, Model, Queue}
+use Rattle.console_rules.specs.declared.names.Command.the-variants.{Send, State, Help, Unknown}
 
 -- a call and its name
 pub record Named : Type 0 where

@@ -2,8 +2,9 @@
 use Prim.Native.Nat.{ℕ}
 use mathlib.Core.List.{List, [], _++_}
 use mathlib.Core.Option.{Option, some, none}
-use lib.Dec.{eqb}
-use lib.ListN.{getD}
+use mathlib.Core.Bool.{Bool}
+use lib.Dec.{eqb, ltb}
+use lib.ListN.{length, getD}
 use Rattle.lists.specs.Lists.{pick}
 use Rattle.text_rules.specs.Put.{decimal}
 use Rattle.text_rules.specs.Plain.{plain}
@@ -17,6 +18,13 @@ use Rattle.text_rules.specs.declared.answer.Number.the-variants.{Is, Not}
 -- a line that cannot be read
 abbrev pub unread : List ℕ
 unread = plain "?\n"
+
+-- for a line that is longer than 1000 bytes, which is not read
+abbrev pub tooLong : List ℕ
+tooLong = plain "? longer than 1000 bytes\n"
+
+abbrev pub isTooLong : List ℕ → Bool
+isTooLong line = ltb 1000 (length line)
 
 -- the k-th word, from 0; the empty one where there is none
 unfoldable pub word : ℕ → List (List ℕ) → List ℕ

@@ -1,9 +1,9 @@
-// The console's aircraft, its calls, and what a line answers. What each line of the console says stands in specs/, and what holds of every line and run in proofs/; the calls are in crates commands, aircraft and calls.
-mod console;
+// The console's aircraft, its calls, and what a line answers.
+// What each line of the console says stands in specs/, and what holds of every line and run in proofs/; the calls are in crates
+// console_plain, console_aircraft and console_lines.
 mod names;
 mod state;
 
-pub use console::Served;
 pub use names::Command;
 pub use state::Aircraft;
 pub use state::Shown;

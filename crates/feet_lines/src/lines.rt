@@ -1,12 +1,11 @@
 // The lines of the program feet, as their very bytes.
 ghost use Rattle.text_rules.specs.Put.{Put};
-ghost use Rattle.text_rules.specs.Run.{TookLine};
+ghost use Rattle.text_rules.specs.Line.{wordsOf};
 ghost use Rattle.altitude_rules.specs.Code.{altitude};
-ghost use Rattle.console_rules.specs.FeetLines.{valueText, answerText, codeText, lineText};
+ghost use Rattle.console_rules.specs.FeetLines.{valueText, answerText, codeText, wordsText, lineText};
 use altitude::number;
 use altitude::read;
 use altitude_rules::Altitude;
-use text_rules::Lined;
 use text_rules::Number;
 
 // What stands behind the answer's number, and the line's end.
@@ -44,9 +43,9 @@ fn put_code(out: &mut [u8], ac: u32) -> usize
     put_answer(out, answer, ac)
 }
 
-// What a line prints.
-fn put_line(line: &[u8], out: &mut [u8]) -> usize
-    ensures { λ r. ⌜ Put (lineText (now (line .entry))) 0 (now (out .entry)) (now (out .exit)) r ⌝ }
+// What a line prints that is not too long.
+fn put_words(line: &[u8], out: &mut [u8]) -> usize
+    ensures { λ r. ⌜ Put (wordsText (wordsOf (now (line .entry)))) 0 (now (out .entry)) (now (out .exit)) r ⌝ }
 {
     let first = text::word(line, 0);
     let from = first.from;
@@ -64,14 +63,12 @@ fn put_line(line: &[u8], out: &mut [u8]) -> usize
     }
 }
 
-// The line of s that begins at a place, as the text that feet prints for it.
-pub fn feet_line(s: &[u8], at: usize, out: &mut [u8]) -> Lined
-    ensures { λ r. ⌜ TookLine lineText (now (s .entry)) at (now (out .entry)) (now (out .exit)) r ⌝ }
+// A line as the text that feet prints for it.
+pub fn feet_line(line: &[u8], out: &mut [u8]) -> usize
+    ensures { λ r. ⌜ Put (lineText (now (line .entry))) 0 (now (out .entry)) (now (out .exit)) r ⌝ }
 {
-    let line = text::line_at(s, at);
-    let from = line.from;
-    let to = line.to;
-    let size = put_line(&s[from..to], out);
-    let next = text::line_after(s, to);
-    Lined { next, size }
+    if 1000 < line.len() {
+        return text::put_bytes(out, 0, b"- 2\n");
+    }
+    put_words(line, out)
 }

@@ -52,7 +52,9 @@ unfolding All lowBits
 bits-back [] h r = refl
 bits-back (b ∷ bs) h r =
     ap₂ (λ (x : ℕ) (l : List ℕ). x ∷ l)
-    (ap (λ (k : ℕ). k / 2 ^ length bs % 2) (spelled-split bs (r * 2 + b)) ∙ ap (λ (k : ℕ). k % 2) (high (r * 2 + b) (length bs) (spelled-lt bs (h .1))) ∙ digits-mod r (h .0))
+    (ap (λ (k : ℕ). k / 2 ^ length bs % 2) (spelled-split bs (r * 2 + b))
+    ∙ ap (λ (k : ℕ). k % 2) (high (r * 2 + b) (length bs) (spelled-lt bs (h .1)))
+    ∙ digits-mod r (h .0))
     (bits-back bs (h .1) (r * 2 + b))
 
 low-length : (n a : ℕ) → length (lowBits n a) ≡ n
@@ -180,12 +182,14 @@ apart (x ∷ xs) (y ∷ ys) hx hy e p q l =
 -- a product's bits above x^23 tell the factor's bits
 zero-one : (p : ℕ) → 16777216 ≤ bitXor (bitXor (p * 2) (0 * generator)) (bitXor (p * 2) (1 * generator))
 zero-one p =
-    let e : bitXor (bitXor (p * 2) (0 * generator)) (bitXor (p * 2) (1 * generator)) ≡ generator = xor-swap (p * 2) (0 * generator) (p * 2) (1 * generator) ∙ ap (λ (k : ℕ). bitXor k (bitXor (0 * generator) (1 * generator))) (xor-self (p * 2)) in
+    let e : bitXor (bitXor (p * 2) (0 * generator)) (bitXor (p * 2) (1 * generator)) ≡ generator =
+    xor-swap (p * 2) (0 * generator) (p * 2) (1 * generator) ∙ ap (λ (k : ℕ). bitXor k (bitXor (0 * generator) (1 * generator))) (xor-self (p * 2)) in
     rw e (omega arith)
 
 one-zero : (p : ℕ) → 16777216 ≤ bitXor (bitXor (p * 2) (1 * generator)) (bitXor (p * 2) (0 * generator))
 one-zero p =
-    let e : bitXor (bitXor (p * 2) (1 * generator)) (bitXor (p * 2) (0 * generator)) ≡ generator = xor-swap (p * 2) (1 * generator) (p * 2) (0 * generator) ∙ ap (λ (k : ℕ). bitXor k (bitXor (1 * generator) (0 * generator))) (xor-self (p * 2)) in
+    let e : bitXor (bitXor (p * 2) (1 * generator)) (bitXor (p * 2) (0 * generator)) ≡ generator =
+    xor-swap (p * 2) (1 * generator) (p * 2) (0 * generator) ∙ ap (λ (k : ℕ). bitXor k (bitXor (1 * generator) (0 * generator))) (xor-self (p * 2)) in
     rw e (omega arith)
 
 same-upper : (a b : ℕ) → a / 16777216 ≡ b / 16777216 → 16777216 ≤ bitXor a b → ⊥

@@ -87,10 +87,18 @@ seal-law s one two r overlay h e q f =
 module _ (s : List ℕ) (head mid : ℕ) (one : List ℕ) (h : sevenOrFourteen (length s) ≡ true) (e : one ≡ front (length s) head mid ++ drop (length s - 3) s) where
   pub filled-length : length one ≡ length s
   filled-length =
-      omega (arith, ap length e, length-append (front (length s) head mid) (drop (length s - 3) s), front-length (length s) head mid h, length-drop (length s - 3) s, at-least-seven (length s) h)
+      omega (
+        arith,
+        ap length e,
+        length-append (front (length s) head mid) (drop (length s - 3) s),
+        front-length (length s) head mid h,
+        length-drop (length s - 3) s,
+        at-least-seven (length s) h,
+      )
 
   pub write-law : (two : List ℕ) (overlay : ℕ) → two ≡ sealed (take (length one - 3) one) overlay → two ≡ framed (length s) head mid overlay
   write-law two overlay f =
       f
       ∙ ap (λ (l : List ℕ). sealed l overlay)
-      (ap₂ (λ (k : ℕ) (l : List ℕ). take (k - 3) l) filled-length e ∙ take-at (front (length s) head mid) (drop (length s - 3) s) (length s - 3) (front-length (length s) head mid h))
+      (ap₂ (λ (k : ℕ) (l : List ℕ). take (k - 3) l) filled-length e
+      ∙ take-at (front (length s) head mid) (drop (length s - 3) s) (length s - 3) (front-length (length s) head mid h))

@@ -83,7 +83,9 @@ unfolding All
 bytes-back [] h q = refl
 bytes-back (b ∷ t) h q =
     ap₂ (λ (x : ℕ) (l : List ℕ). x ∷ l)
-    (ap (λ (k : ℕ). k / 2 ^ (8 * length t) % 256) (split t (q * 256 + b)) ∙ ap (λ (k : ℕ). k % 256) (high (q * 256 + b) (8 * length t) (number-lt t (h .1))) ∙ digits-mod q (h .0))
+    (ap (λ (k : ℕ). k / 2 ^ (8 * length t) % 256) (split t (q * 256 + b))
+    ∙ ap (λ (k : ℕ). k % 256) (high (q * 256 + b) (8 * length t) (number-lt t (h .1)))
+    ∙ digits-mod q (h .0))
     (bytes-back t (h .1) (q * 256 + b))
 
 pub bytes-number : (t : List ℕ) → AreBytes t → bytesOf (length t) (numberOfBytes t) ≡ t

@@ -158,7 +158,9 @@ module _ (ca address cl ic : ℕ) (hr : allCallReplyRanged ca address cl ic ≡ 
       let r = all-call-reply-in ca address cl ic hr in
       let p = all-call-reply-parts in
       let f = ap (valueAt atUF) (p .head-is) ∙ all-call-reply-format ca address (omega arith) (omega arith) in
-      sym (end refusedBy _ all (not-off _ (ap sevenOrFourteen (p .length-is)), (not-off _ hs, (not-off _ (and-yes _ _ (eq-eqb _ 7 (p .length-is)) (eq-eqb _ 11 f)), tt))))
+      sym
+      (end refusedBy _ all
+      (not-off _ (ap sevenOrFourteen (p .length-is)), (not-off _ hs, (not-off _ (and-yes _ _ (eq-eqb _ 7 (p .length-is)) (eq-eqb _ 11 f)), tt))))
       ∙ rw (p .remainder-is, eq-eqb (codeNumber cl ic) (codeNumber cl ic) refl)
 
 -- ---- the same of what the calls answer

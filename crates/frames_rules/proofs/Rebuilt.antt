@@ -128,7 +128,9 @@ module _ (m : List ℕ) (h : AreBytes m) (uf pc rr di sd ma r : ℕ) where
         frame-of m h (s .measured) (lengthOf uf) (selectiveHead uf pc rr di sd) ma (overlayOf address) (sym (s .length-is)) hd (s .ma-is)
         (sym o ∙ s .remainder-is)
       where
-        same-head : Selective → selectiveHead uf pc rr di sd ≡ selectiveHead (valueAt atUF (headOf m)) (valueAt atPC (headOf m)) (valueAt atRR (headOf m)) (valueAt atDI (headOf m)) (valueAt atSD (headOf m))
+        same-head : Selective
+            → selectiveHead uf pc rr di sd
+            ≡ selectiveHead (valueAt atUF (headOf m)) (valueAt atPC (headOf m)) (valueAt atRR (headOf m)) (valueAt atDI (headOf m)) (valueAt atSD (headOf m))
         same-head s = cc (s .at-uf, s .at-pc, s .at-rr, s .at-di, s .at-sd)
 
     zero-or-long : Selective → eqb ma 0 || leb ma 0xFFFFFFFFFFFFFF && longFormat uf ≡ true
@@ -157,9 +159,21 @@ module _ (m : List ℕ) (h : AreBytes m) (uf pc rr di sd ma r : ℕ) where
     build-again seven out l n k low high =
         let s = selective-of e in
         let t : selectiveRanged uf pc rr di sd (numberOfBytes seven) address ≡ true =
-        rw (n, s .format-is, le-leb pc 7 (omega (arith, s .at-pc)), le-leb rr 31 (omega (arith, s .at-rr)), le-leb di 7 (omega (arith, s .at-di)), le-leb sd 65535 (omega (arith, s .at-sd)), le-leb 1 address low, le-leb address 16777214 high) (zero-or-long s) in
-        sym (end (notBuilt out) _ all
-        (not-off _ (s .format-is), (not-off _ (and-yes _ _ (eq-eqb (length out) (lengthOf uf) (k ∙ s .length-is)) (eq-eqb (length seven) 7 l)), (not-off _ t, tt))))
+        rw (
+          n,
+          s .format-is,
+          le-leb pc 7 (omega (arith, s .at-pc)),
+          le-leb rr 31 (omega (arith, s .at-rr)),
+          le-leb di 7 (omega (arith, s .at-di)),
+          le-leb sd 65535 (omega (arith, s .at-sd)),
+          le-leb 1 address low,
+          le-leb address 16777214 high,
+        )
+        (zero-or-long s) in
+        sym (end (notBuilt out) _ all (
+          not-off _ (s .format-is),
+          (not-off _ (and-yes _ _ (eq-eqb (length out) (lengthOf uf) (k ∙ s .length-is)) (eq-eqb (length seven) 7 l)), (not-off _ t, tt)),
+        ))
         ∙ rw n (ap holding selective-rebuilt)
 
 -- ---- UF 11, up to bits 17 to 32

@@ -99,7 +99,10 @@ module _ (m : List ℕ) (h : AreBytes m) where
   long-front : length m ≡ 14 → front (length m) (headOf m) (midOf m) ≡ take (length m - 3) m
   unfolding front headOf midOf
   long-front e =
-      rw e (ap₂ (λ (a b : List ℕ). a ++ b) (part-bytes 4 m (omega arith) h) (part-bytes 7 (drop 4 m) (omega (arith, length-drop 4 m)) (all-drop (λ b. b < 256) 4 m h)) ∙ sym (take-add 4 7 m))
+      rw e
+      (ap₂ (λ (a b : List ℕ). a ++ b) (part-bytes 4 m (omega arith) h)
+      (part-bytes 7 (drop 4 m) (omega (arith, length-drop 4 m)) (all-drop (λ b. b < 256) 4 m h))
+      ∙ sym (take-add 4 7 m))
 
   module _ (w : sevenOrFourteen (length m) ≡ true) where
     pub same-front : front (length m) (headOf m) (midOf m) ≡ take (length m - 3) m

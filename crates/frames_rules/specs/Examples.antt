@@ -5,7 +5,7 @@ use mathlib.Core.List.{List, [], _∷_}
 use lib.ListN.{replicate}
 use Rattle.lists.specs.Lists.{pick}
 use Rattle.lists.specs.Checks.{checked}
-use Rattle.lists.specs.Listing.{Row, row, Agrees}
+use Rattle.lists.specs.Listing.{Row, row, Agrees, _also_}
 use Rattle.parity_rules.specs.Messages.{bits}
 use Rattle.parity_rules.specs.Division.{shiftIn, divide, remainderOf}
 use Rattle.frames_rules.specs.Fields.{headOf, midOf}
@@ -160,5 +160,11 @@ listing =
 
 -- the one claim
 pub frames-agree : Agrees listing
-unfolding checked bits shiftIn divide remainderOf headOf midOf readAs selectiveRead allCallRead surveillanceRead allCallReplyRead whose codeOf codeFor codeTold drawn drawnTold quotientBits quotientOf addressOf addressTold selectiveRanged building allCallRanged allCalling replyRanged replying allCallReplyRanged allCallReplying
-frames-agree = (refl, (refl, (refl, (refl, (refl, (refl, (refl, (refl, (refl, (refl, (refl, (refl, (refl, (refl, (refl, (refl, (refl, (refl, (refl, (refl, (refl, (refl, (refl, (refl, (refl, (refl, (refl, (refl, (refl, (refl, (refl, (refl, (refl, (refl, (refl, (refl, (refl, (refl, (refl, (refl, (refl, (refl, (refl, (refl, (refl, (refl, (refl, (refl, (refl, (refl, (refl, tt)))))))))))))))))))))))))))))))))))))))))))))))))))
+unfolding checked bits shiftIn divide remainderOf headOf midOf readAs selectiveRead allCallRead surveillanceRead allCallReplyRead whose codeOf codeFor
+    codeTold drawn drawnTold quotientBits quotientOf addressOf addressTold selectiveRanged building allCallRanged allCalling replyRanged replying
+    allCallReplyRanged allCallReplying
+frames-agree =
+    refl also refl also refl also refl also refl also refl also refl also refl also refl also refl also refl also refl also refl also refl also refl also
+    refl also refl also refl also refl also refl also refl also refl also refl also refl also refl also refl also refl also refl also refl also refl also
+    refl also refl also refl also refl also refl also refl also refl also refl also refl also refl also refl also refl also refl also refl also refl also
+    refl also refl also refl also refl also refl also refl also tt

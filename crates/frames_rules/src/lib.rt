@@ -1,4 +1,5 @@
-// What the calls on frames answer. What a frame holds, and how it is built and read, stands in specs/, and the theorems in proofs/; the calls are in crate frames.
+// What the calls on frames answer. What a frame holds, and how it is built and read, stands in specs/, and the theorems in proofs/;
+// the calls are in crate frames.
 mod answers;
 
 pub use answers::Address;

@@ -15,6 +15,11 @@ abbrev pub Agrees : List Row → Type 0
 Agrees [] = Unit {0}
 Agrees (r ∷ rs) = (r .gives ≡ r .paper) × Agrees rs
 
+-- a row that says the same twice, before a listing that agrees
+infixr 5 _also_
+pub _also_ : {P Q : Type 0} → P → Q → P × Q
+p also q = (p, q)
+
 -- two listings that agree are one that agrees
 pub agrees-append : (a b : List Row) → Agrees a → Agrees b → Agrees (a ++ b)
 agrees-append [] b ha hb = hb

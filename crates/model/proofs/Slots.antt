@@ -21,10 +21,20 @@ use lib.Seq.{drop-cons, set-out}
 use Rattle.lists.specs.Lists.{over}
 
 -- what eight slots hold after the first
-pub moved-up : (l : List ℕ) → length l ≡ 8 → getD l 1 0 ∷ getD l 2 0 ∷ getD l 3 0 ∷ getD l 4 0 ∷ getD l 5 0 ∷ getD l 6 0 ∷ getD l 7 0 ∷ 0 ∷ [] ≡ drop 1 l ++ (0 ∷ [])
+pub moved-up : (l : List ℕ) → length l ≡ 8
+    → getD l 1 0 ∷ getD l 2 0 ∷ getD l 3 0 ∷ getD l 4 0 ∷ getD l 5 0 ∷ getD l 6 0 ∷ getD l 7 0 ∷ 0 ∷ [] ≡ drop 1 l ++ (0 ∷ [])
 moved-up l e =
     let d : drop 8 l ≡ [] = drop-of-length-le l {i = 8} (omega arith) in
-    rw (drop-cons l 1 0 (omega arith), drop-cons l 2 0 (omega arith), drop-cons l 3 0 (omega arith), drop-cons l 4 0 (omega arith), drop-cons l 5 0 (omega arith), drop-cons l 6 0 (omega arith), drop-cons l 7 0 (omega arith), d)
+    rw (
+      drop-cons l 1 0 (omega arith),
+      drop-cons l 2 0 (omega arith),
+      drop-cons l 3 0 (omega arith),
+      drop-cons l 4 0 (omega arith),
+      drop-cons l 5 0 (omega arith),
+      drop-cons l 6 0 (omega arith),
+      drop-cons l 7 0 (omega arith),
+      d,
+    )
 
 -- seven bytes, and zeros behind them
 pub seven : (b : List ℕ) → length b ≡ 7
@@ -56,7 +66,8 @@ started-at a t place k time p e = rw (← p) (ap {B = Timers} (λ (x : List Time
 
 pub started-none : (t : Timers) (place k time : ℕ) → k ≡ place → length (t .list) ≤ k → t ≡ started place time t
 unfolding started
-started-none t place k time p h = rw (← p) (ap {B = Timers} (λ (x : List Timer). record { list = x }) (sym (set-out (t .list) k (record { lock = Since time }) h)))
+started-none t place k time p h =
+    rw (← p) (ap {B = Timers} (λ (x : List Timer). record { list = x }) (sym (set-out (t .list) k (record { lock = Since time }) h)))
 
 -- ---- the ranges of a making
 pub make-in : (address ac id fs ca : ℕ) → makeRanged address ac id fs ca ≡ true → (ac ≤ 8191) × (id ≤ 8191) × (fs ≤ 7) × (ca ≤ 7)

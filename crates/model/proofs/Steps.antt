@@ -88,7 +88,8 @@ module _ (pc di sd : ℕ) (t : Transponder) where
   closed u m h q e = rw (h, e, q)
 
 -- ---- replies
-pub responded : (s : Sent) (t : Transponder) (uf rr di sd df dr um value mb : ℕ) → drawn uf rr ≡ Format df → dr ≡ drOf (t .messages) → um ≡ umOf di sd (t .holder) → value ≡ valueOf uf t → mb ≡ mbOf rr di sd (t .messages)
+pub responded : (s : Sent) (t : Transponder) (uf rr di sd df dr um value mb : ℕ) → drawn uf rr ≡ Format df → dr ≡ drOf (t .messages)
+    → um ≡ umOf di sd (t .holder) → value ≡ valueOf uf t → mb ≡ mbOf rr di sd (t .messages)
     → s ≡ sending (replying df (t .fs) dr um value mb (t .address) (replicate (lengthOf df) 0)) → s ≡ respond uf rr di sd t
 unfolding respond
 responded s t uf rr di sd df dr um value mb d p q r m e = rw d (e ∙ (rw (p, q, r, m)))

@@ -2,7 +2,7 @@
 use mathlib.Core.Path.{refl}
 use Rattle.lists.specs.Lists.{over}
 use Rattle.lists.specs.Checks.{checked, given}
-use Rattle.lists.specs.Listing.{Agrees}
+use Rattle.lists.specs.Listing.{Agrees, _also_}
 use Rattle.parity_rules.specs.Messages.{bits}
 use Rattle.parity_rules.specs.Division.{shiftIn, divide, remainderOf}
 use Rattle.parity_rules.specs.Overlays.{lowBits, times, overlayOf}
@@ -27,5 +27,14 @@ use Rattle.model_rules.specs.Examples.{listing}
 
 -- the one claim
 pub model-agrees : Agrees listing
-unfolding bits shiftIn divide remainderOf lowBits times overlayOf over frames.replyRanged frames.allCallReplyRanged frames.selective frames.allCall frames.aReply frames.anAllCallReply frames.replying frames.allCallReplying headOf midOf selectiveHead allCallHead replyHead allCallReplyHead front sealed readAs surveillanceRead upOf codeFor drawn started messagesWith messagesAfter timerAfter timersAfter lapse startedByLOS startedByLSS commandOfSD commanded lockout lockedTo reserve closeout sending respond drawsBelow answers answerAllCall newborn makeRanged making queuing steps interrogated laidOver selectiveComes allCallComes comes taking after checked checks reserving closing told lastCommand sentTo
-model-agrees = (refl, (refl, (refl, (refl, (refl, (refl, (refl, (refl, (refl, (refl, (refl, (refl, (refl, (refl, (refl, (refl, (refl, (refl, (refl, (refl, (refl, (refl, (refl, (refl, (refl, (refl, (refl, (refl, (refl, (refl, (refl, (refl, (refl, (refl, (refl, (refl, (refl, (refl, (refl, (refl, (refl, (refl, (refl, (refl, (refl, (refl, (refl, (refl, (refl, (refl, (refl, (refl, (refl, (refl, (refl, (refl, (refl, (refl, (refl, (refl, (refl, (refl, (refl, (refl, (refl, tt)))))))))))))))))))))))))))))))))))))))))))))))))))))))))))))))))
+unfolding bits shiftIn divide remainderOf lowBits times overlayOf over frames.replyRanged frames.allCallReplyRanged frames.selective frames.allCall
+    frames.aReply frames.anAllCallReply frames.replying frames.allCallReplying headOf midOf selectiveHead allCallHead replyHead allCallReplyHead front
+    sealed readAs surveillanceRead upOf codeFor drawn started messagesWith messagesAfter timerAfter timersAfter lapse startedByLOS startedByLSS commandOfSD
+    commanded lockout lockedTo reserve closeout sending respond drawsBelow answers answerAllCall newborn makeRanged making queuing steps interrogated
+    laidOver selectiveComes allCallComes comes taking after checked checks reserving closing told lastCommand sentTo
+model-agrees =
+    refl also refl also refl also refl also refl also refl also refl also refl also refl also refl also refl also refl also refl also refl also refl also
+    refl also refl also refl also refl also refl also refl also refl also refl also refl also refl also refl also refl also refl also refl also refl also
+    refl also refl also refl also refl also refl also refl also refl also refl also refl also refl also refl also refl also refl also refl also refl also
+    refl also refl also refl also refl also refl also refl also refl also refl also refl also refl also refl also refl also refl also refl also refl also
+    refl also refl also refl also refl also refl also tt

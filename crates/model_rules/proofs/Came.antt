@@ -157,7 +157,8 @@ for-others t time draw f n l = taken-is t time draw f n .1 ∙ ap isTaken (passe
 -- ---- DR, UM and MB of a reply are those of the state after the closeout
 pub reply-after-closeout : (uf pc rr di sd df : ℕ) (t : Transponder) → drawn uf rr ≡ Format df
     → let u = interrogated uf pc rr di sd t .transponder in
-    interrogated uf pc rr di sd t .sent ≡ sending (replying df (u .fs) (drOf (u .messages)) (umOf di sd (u .holder)) (valueOf uf u) (mbOf rr di sd (u .messages)) (u .address) (replicate (lengthOf df) 0))
+    interrogated uf pc rr di sd t .sent ≡ sending
+    (replying df (u .fs) (drOf (u .messages)) (umOf di sd (u .holder)) (valueOf uf u) (mbOf rr di sd (u .messages)) (u .address) (replicate (lengthOf df) 0))
 unfolding interrogated respond
 reply-after-closeout uf pc rr di sd df t e = rw e
 

@@ -67,16 +67,20 @@ module _ (pr ic cl draw : ℕ) (t : Transponder) (c : Interrogator) (somebody : 
   answered-when f d = is ∙ and-yes (free pr c t) (ltb draw (drawsBelow pr)) f (lt-ltb draw (drawsBelow pr) d)
 
 -- an II's or an SI's all-call is answered exactly then
-pub ii-answered : (pr ic cl draw n : ℕ) (t : Transponder) → codeFor cl ic ≡ II n → answers pr ic cl draw t ≡ true → (free pr (II n) t ≡ true) × (draw < drawsBelow pr)
+pub ii-answered : (pr ic cl draw n : ℕ) (t : Transponder) → codeFor cl ic ≡ II n → answers pr ic cl draw t ≡ true
+    → (free pr (II n) t ≡ true) × (draw < drawsBelow pr)
 ii-answered pr ic cl draw n t e h = answered-then pr ic cl draw t (II n) refl e h
 
-pub ii-answers : (pr ic cl draw n : ℕ) (t : Transponder) → codeFor cl ic ≡ II n → free pr (II n) t ≡ true → draw < drawsBelow pr → answers pr ic cl draw t ≡ true
+pub ii-answers : (pr ic cl draw n : ℕ) (t : Transponder) → codeFor cl ic ≡ II n → free pr (II n) t ≡ true → draw < drawsBelow pr
+    → answers pr ic cl draw t ≡ true
 ii-answers pr ic cl draw n t e f d = answered-when pr ic cl draw t (II n) refl e f d
 
-pub si-answered : (pr ic cl draw n : ℕ) (t : Transponder) → codeFor cl ic ≡ SI n → answers pr ic cl draw t ≡ true → (free pr (SI n) t ≡ true) × (draw < drawsBelow pr)
+pub si-answered : (pr ic cl draw n : ℕ) (t : Transponder) → codeFor cl ic ≡ SI n → answers pr ic cl draw t ≡ true
+    → (free pr (SI n) t ≡ true) × (draw < drawsBelow pr)
 si-answered pr ic cl draw n t e h = answered-then pr ic cl draw t (SI n) refl e h
 
-pub si-answers : (pr ic cl draw n : ℕ) (t : Transponder) → codeFor cl ic ≡ SI n → free pr (SI n) t ≡ true → draw < drawsBelow pr → answers pr ic cl draw t ≡ true
+pub si-answers : (pr ic cl draw n : ℕ) (t : Transponder) → codeFor cl ic ≡ SI n → free pr (SI n) t ≡ true → draw < drawsBelow pr
+    → answers pr ic cl draw t ≡ true
 si-answers pr ic cl draw n t e f d = answered-when pr ic cl draw t (SI n) refl e f d
 
 -- "SI 0 and CL 5 to 7 get no reply"

@@ -57,12 +57,14 @@ AtMostOne m k = (waiting k ≡ waiting m) ⊎ (waiting k ≡ drop 1 (waiting m))
 closeout-one : (pc di sd : ℕ) (t : Transponder) → AtMostOne (t .messages) (closeout pc di sd t .messages)
 unfolding closeout
 closeout-one pc di sd t =
-    of-pick (λ (u : Transponder). AtMostOne (t .messages) (u .messages)) (closes pc di sd (t .holder)) (withMessages (messagesAfter (t .messages)) (withHolder Nobody t)) t (inr (waiting-after (t .messages))) (inl refl)
+    of-pick (λ (u : Transponder). AtMostOne (t .messages) (u .messages)) (closes pc di sd (t .holder))
+    (withMessages (messagesAfter (t .messages)) (withHolder Nobody t)) t (inr (waiting-after (t .messages))) (inl refl)
 
 reserve-same : (di sd : ℕ) (t : Transponder) → reserve di sd t .messages ≡ t .messages
 unfolding reserve
 reserve-same di sd t =
-    of-pick (λ (u : Transponder). u .messages ≡ t .messages) (asksToHold di sd && waits (t .messages) && nobodyElse (iis sd) (t .holder)) (withHolder (Held (iis sd) (t .time)) t) t refl refl
+    of-pick (λ (u : Transponder). u .messages ≡ t .messages) (asksToHold di sd && waits (t .messages) && nobodyElse (iis sd) (t .holder))
+    (withHolder (Held (iis sd) (t .time)) t) t refl refl
 
 lockout-same : (pc di sd : ℕ) (t : Transponder) → lockout pc di sd t .messages ≡ t .messages
 unfolding lockout commanded
@@ -75,7 +77,8 @@ lapse-same now t = refl
 steps-one : (pc di sd : ℕ) (t : Transponder) → AtMostOne (t .messages) (steps pc di sd t .messages)
 unfolding steps
 steps-one pc di sd t =
-    subst (λ (m : Messages). AtMostOne m (closeout pc di sd (reserve di sd (lockout pc di sd t)) .messages)) (reserve-same di sd (lockout pc di sd t) ∙ lockout-same pc di sd t)
+    subst (λ (m : Messages). AtMostOne m (closeout pc di sd (reserve di sd (lockout pc di sd t)) .messages))
+    (reserve-same di sd (lockout pc di sd t) ∙ lockout-same pc di sd t)
     (closeout-one pc di sd (reserve di sd (lockout pc di sd t)))
 
 stepped-one : (t : Transponder) (x : Up) (u : Transponder) → Stepped t x u → AtMostOne (t .messages) (u .messages)

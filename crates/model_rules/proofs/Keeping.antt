@@ -77,10 +77,12 @@ module _ (a : Aircraft) where
   as-made : (t : Transponder) (now : ℕ) (x : Timers) (h : Holder) (m : Messages) → As a t → As a (keeping t now x h m)
   as-made t now x h m k = record { address = k .address; ac = k .ac; id = k .id; fs = k .fs; ca = k .ca }
 
-  kept-queue : (t : Transponder) (m : List ℕ) → AreBytes m → length m ≡ 7 → length (waiting (t .messages)) < 8 → Kept a t → Kept a (withMessages (messagesWith (numberOfBytes m) (t .messages)) t)
+  kept-queue : (t : Transponder) (m : List ℕ) → AreBytes m → length m ≡ 7 → length (waiting (t .messages)) < 8 → Kept a t
+      → Kept a (withMessages (messagesWith (numberOfBytes m) (t .messages)) t)
   kept-queue t m b e l k =
       let w = waiting-with (numberOfBytes m) (t .messages) in
-      let n : length (waiting (messagesWith (numberOfBytes m) (t .messages))) ≡ length (waiting (t .messages)) + 1 = ap length w ∙ length-append (waiting (t .messages)) (numberOfBytes m ∷ []) in
+      let n : length (waiting (messagesWith (numberOfBytes m) (t .messages))) ≡ length (waiting (t .messages)) + 1 =
+      ap length w ∙ length-append (waiting (t .messages)) (numberOfBytes m ∷ []) in
       record {
         same = as-made t _ _ _ _ (k .same);
         ranged = k .ranged;
@@ -187,7 +189,8 @@ closeout-time pc di sd t = of-pick (λ (u : Transponder). u .time ≡ t .time) (
 
 reserve-time : (di sd : ℕ) (t : Transponder) → reserve di sd t .time ≡ t .time
 unfolding reserve
-reserve-time di sd t = of-pick (λ (u : Transponder). u .time ≡ t .time) (asksToHold di sd && waits (t .messages) && nobodyElse (iis sd) (t .holder)) _ t refl refl
+reserve-time di sd t =
+    of-pick (λ (u : Transponder). u .time ≡ t .time) (asksToHold di sd && waits (t .messages) && nobodyElse (iis sd) (t .holder)) _ t refl refl
 
 steps-time : (pc di sd : ℕ) (t : Transponder) → steps pc di sd t .time ≡ t .time
 unfolding steps lockout commanded

@@ -1,4 +1,5 @@
--- The theorems of the transponder: examples, timers, draws, what a call comes to, who holds, what every history keeps, numbers, what the calls tell, and replies.
+-- The theorems of the transponder: examples, timers, draws, what a call comes to, who holds, what every history keeps, numbers, what the calls tell,
+-- and replies.
 pub mod Agreed
 pub mod Timing
 pub mod Draws

@@ -111,7 +111,8 @@ either true false s l = refl
 either false y s l = refl
 
 module _ (c : Interrogator) (ok : ACode c) (pc di sd : ℕ) (t : Transponder) (h : length (t .timers .list) ≡ 79) where
-  lockout-lock : lockAt c (lockout pc di sd t .timers) ≡ pick (isCode c (commandOfPC pc) || isCode c (commandOfSD di sd)) (Since (t .time)) (lockAt c (t .timers))
+  lockout-lock : lockAt c (lockout pc di sd t .timers) ≡ pick (isCode c (commandOfPC pc) || isCode c (commandOfSD di sd)) (Since (t .time))
+      (lockAt c (t .timers))
   unfolding lockout commanded
   lockout-lock =
       let x = started (placeOf (commandOfPC pc)) (t .time) (t .timers) in
@@ -127,7 +128,8 @@ closeout-timers pc di sd t = of-pick (λ (u : Transponder). u .timers ≡ t .tim
 
 reserve-timers : (di sd : ℕ) (t : Transponder) → reserve di sd t .timers ≡ t .timers
 unfolding reserve
-reserve-timers di sd t = of-pick (λ (u : Transponder). u .timers ≡ t .timers) (asksToHold di sd && waits (t .messages) && nobodyElse (iis sd) (t .holder)) _ t refl refl
+reserve-timers di sd t =
+    of-pick (λ (u : Transponder). u .timers ≡ t .timers) (asksToHold di sd && waits (t .messages) && nobodyElse (iis sd) (t .holder)) _ t refl refl
 
 steps-timers : (pc di sd : ℕ) (t : Transponder) → steps pc di sd t .timers ≡ lockout pc di sd t .timers
 unfolding steps

@@ -69,11 +69,16 @@ or-last : (x y : Bool) → y ≡ true → x || y ≡ true
 or-last true y e = refl
 or-last false y e = e
 
-mb-in : (df rr di sd : ℕ) (m : Messages) → Drawn rr df → All Of56Bits (waiting m) → eqb (mbOf rr di sd m) 0 || leb (mbOf rr di sd m) 0xFFFFFFFFFFFFFF && longFormat df ≡ true
+mb-in : (df rr di sd : ℕ) (m : Messages) → Drawn rr df → All Of56Bits (waiting m)
+    → eqb (mbOf rr di sd m) 0 || leb (mbOf rr di sd m) 0xFFFFFFFFFFFFFF && longFormat df ≡ true
 mb-in df rr di sd m d h = go (eqb rr 16) refl (eqb (bds2 di sd) 0)
   where
-    go : (x : Bool) → eqb rr 16 ≡ x → (y : Bool) → let mb = pick (x && y) (getD (waiting m) 0 0) 0 in eqb mb 0 || leb mb 0xFFFFFFFFFFFFFF && longFormat df ≡ true
-    go true e true = or-last (eqb (getD (waiting m) 0 0) 0) (leb (getD (waiting m) 0 0) 0xFFFFFFFFFFFFFF && longFormat df) (and-yes (leb (getD (waiting m) 0 0) 0xFFFFFFFFFFFFFF) (longFormat df) (le-leb (getD (waiting m) 0 0) 0xFFFFFFFFFFFFFF (first-in (waiting m) h)) (d .long (eqb-true rr 16 e)))
+    go : (x : Bool) → eqb rr 16 ≡ x → (y : Bool)
+        → let mb = pick (x && y) (getD (waiting m) 0 0) 0 in eqb mb 0 || leb mb 0xFFFFFFFFFFFFFF && longFormat df ≡ true
+    go true e true =
+        or-last (eqb (getD (waiting m) 0 0) 0) (leb (getD (waiting m) 0 0) 0xFFFFFFFFFFFFFF && longFormat df)
+        (and-yes (leb (getD (waiting m) 0 0) 0xFFFFFFFFFFFFFF) (longFormat df) (le-leb (getD (waiting m) 0 0) 0xFFFFFFFFFFFFFF (first-in (waiting m) h))
+        (d .long (eqb-true rr 16 e)))
     go true e false = refl
     go false e y = refl
 

@@ -31,7 +31,8 @@ pub over-later : (now then s : ℕ) → then ≤ now → isOver then s ≡ true 
 over-later now then s h e = let p = leb-true lasting (then - s) e in le-leb lasting (now - s) (omega arith)
 
 -- what stands at a code's place after a lapse is what stood there, lapsed
-pub at-place : (code : Interrogator) (now : ℕ) (t : Timers) → getD (timersAfter now t .list) (placeOf code) idle ≡ timerAfter now (getD (t .list) (placeOf code) idle)
+pub at-place : (code : Interrogator) (now : ℕ) (t : Timers)
+    → getD (timersAfter now t .list) (placeOf code) idle ≡ timerAfter now (getD (t .list) (placeOf code) idle)
 unfolding timersAfter timerAfter
 at-place code now t = List·getD-map (timerAfter now) (t .list) (placeOf code) idle
 
@@ -67,12 +68,14 @@ unfolding lockedTo timerAfter
 never-locks code now t e = rw (at-place code now t, e)
 
 -- ---- a command starts its own timer
-pub own-timer : (code : Interrogator) (time : ℕ) (t : Timers) → placeOf code < length (t .list) → getD (started (placeOf code) time t .list) (placeOf code) idle ≡ record { lock = Since time }
+pub own-timer : (code : Interrogator) (time : ℕ) (t : Timers) → placeOf code < length (t .list)
+    → getD (started (placeOf code) time t .list) (placeOf code) idle ≡ record { lock = Since time }
 unfolding started
 own-timer code time t h = getD-set-same (t .list) (placeOf code) (record { lock = Since time }) idle h
 
 -- and no other
-pub other-timer : (code other : Interrogator) (time : ℕ) (t : Timers) → (placeOf other ≡ placeOf code → ⊥) → getD (started (placeOf code) time t .list) (placeOf other) idle ≡ getD (t .list) (placeOf other) idle
+pub other-timer : (code other : Interrogator) (time : ℕ) (t : Timers) → (placeOf other ≡ placeOf code → ⊥)
+    → getD (started (placeOf code) time t .list) (placeOf other) idle ≡ getD (t .list) (placeOf other) idle
 unfolding started
 other-timer code other time t n = getD-set-other (t .list) (placeOf code) (placeOf other) (record { lock = Since time }) idle n
 
@@ -96,7 +99,8 @@ start-locks : (c : Interrogator) (time : ℕ) (t : Timers) → placeOf c < lengt
 unfolding lockedTo
 start-locks c time t h = rw (own-timer c time t h)
 
-still-locks : (c other : Interrogator) (time : ℕ) (t : Timers) → placeOf c < length (t .list) → lockedTo c t ≡ true → lockedTo c (started (placeOf other) time t) ≡ true
+still-locks : (c other : Interrogator) (time : ℕ) (t : Timers) → placeOf c < length (t .list) → lockedTo c t ≡ true
+    → lockedTo c (started (placeOf other) time t) ≡ true
 unfolding lockedTo
 still-locks c other time t h e = go (eqb (placeOf c) (placeOf other)) refl
   where
@@ -111,12 +115,16 @@ module _ (pc di sd : ℕ) (t : Transponder) (h : length (t .timers .list) ≡ 79
   unfolding lockout commanded
   pc-1-locks e =
       rw e
-      (still-locks (II 0) (commandOfSD di sd) (t .time) (started 0 (t .time) (t .timers)) (omega (arith, h, started-length (t .timers) 0 (t .time))) (start-locks (II 0) (t .time) (t .timers) (omega (arith, h))))
+      (still-locks (II 0) (commandOfSD di sd) (t .time) (started 0 (t .time) (t .timers)) (omega (arith, h, started-length (t .timers) 0 (t .time)))
+      (start-locks (II 0) (t .time) (t .timers) (omega (arith, h))))
 
   -- the code that SD commands is locked
   sd-locks : (c : Interrogator) → commandOfSD di sd ≡ c → placeOf c < 79 → lockedTo c (lockout pc di sd t .timers) ≡ true
   unfolding lockout commanded
-  sd-locks c e p = rw e (start-locks c (t .time) (started (placeOf (commandOfPC pc)) (t .time) (t .timers)) (omega (arith, h, p, started-length (t .timers) (placeOf (commandOfPC pc)) (t .time))))
+  sd-locks c e p =
+      rw e
+      (start-locks c (t .time) (started (placeOf (commandOfPC pc)) (t .time) (t .timers))
+      (omega (arith, h, p, started-length (t .timers) (placeOf (commandOfPC pc)) (t .time))))
 
   -- "DI 1 or 7 with LOS (bit 26) starts the II in bits 17-20"
   pub los-locks : (di ≡ 1) ⊎ (di ≡ 7) → los sd ≡ 1 → lockedTo (II (iis sd)) (lockout pc di sd t .timers) ≡ true
@@ -161,4 +169,9 @@ si-0-starts-none sd e = rw e (go (eqb (lss sd) 1))
 pub no-timer : (pc di sd : ℕ) (t : Transponder) → length (t .timers .list) ≡ 79 → (pc ≡ 1 → ⊥) → commandOfSD di sd ≡ Nobody → lockout pc di sd t ≡ t
 unfolding lockout commanded started
 no-timer pc di sd t h n e =
-    rw (ne-eqb pc 1 n, e, set-out (t .timers .list) 79 (record { lock = Since (t .time) }) (omega (arith, h)), set-out (t .timers .list) 79 (record { lock = Since (t .time) }) (omega (arith, h)))
+    rw (
+      ne-eqb pc 1 n,
+      e,
+      set-out (t .timers .list) 79 (record { lock = Since (t .time) }) (omega (arith, h)),
+      set-out (t .timers .list) 79 (record { lock = Since (t .time) }) (omega (arith, h)),
+    )

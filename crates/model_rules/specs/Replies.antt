@@ -70,7 +70,8 @@ valueOf uf t = pick (eqb uf 4 || eqb uf 20) (t .ac) (t .id)
 abbrev pub sendingFormat : ℕ → ℕ → ℕ → ℕ → Transponder → Draws → Sent
 sendingFormat uf rr di sd t Nothing = silence
 sendingFormat uf rr di sd t (Format df) =
-    sending (replying df (t .fs) (drOf (t .messages)) (umOf di sd (t .holder)) (valueOf uf t) (mbOf rr di sd (t .messages)) (t .address) (replicate (lengthOf df) 0))
+    sending
+    (replying df (t .fs) (drOf (t .messages)) (umOf di sd (t .holder)) (valueOf uf t) (mbOf rr di sd (t .messages)) (t .address) (replicate (lengthOf df) 0))
 
 unfoldable pub respond : ℕ → ℕ → ℕ → ℕ → Transponder → Sent
 respond uf rr di sd t = sendingFormat uf rr di sd t (drawn uf rr)

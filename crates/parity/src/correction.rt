@@ -23,7 +23,8 @@ fn rebuild(
     want: u32,
     out: &mut [u8],
 ) -> u32
-    requires { ⌜ (length (now marks) ≡ length (now msg)) × (length (now out) ≡ length (now msg)) × (length (now msg) ≤ 14) × Left (bits (now marks)) (now syns) 0 many want (first (matching want (bits (now marks)))) ⌝ }
+    requires { ⌜ (length (now marks) ≡ length (now msg)) × (length (now out) ≡ length (now msg)) × (length (now msg) ≤ 14)
+        × Left (bits (now marks)) (now syns) 0 many want (first (matching want (bits (now marks)))) ⌝ }
     ensures { λ r. ⌜ r ≡ sizeOf (first (matching want (bits (now (marks .entry))))) ⌝ }
     ensures { λ r. ⌜ now (out .exit) ≡ flipped (now (msg .entry)) (first (matching want (bits (now (marks .entry))))) ⌝ }
 {
@@ -44,8 +45,11 @@ fn rebuild(
 
 // What it comes to by how many subsets match, with the first of syns the syndromes of the marked bits.
 fn settle(msg: &[u8], marks: &[u8], syns: &[u32; 12], many: usize, want: u32, out: &mut [u8]) -> Fix
-    requires { ⌜ (length (now marks) ≡ length (now msg)) × (length (now out) ≡ length (now msg)) × (length (now msg) ≤ 14) × (many ≤ 12) × (back many (now syns) ≡ syndromesOf (bits (now marks))) ⌝ }
-    ensures { λ r. ⌜ fixSaid r (now (out .exit)) ≡ checked (matchChecks (matching want (bits (now (marks .entry))))) (notCorrected (now (out .entry))) (flippedBy (now (msg .entry)) (matching want (bits (now (marks .entry))))) ⌝ }
+    requires { ⌜ (length (now marks) ≡ length (now msg)) × (length (now out) ≡ length (now msg)) × (length (now msg) ≤ 14)
+        × (many ≤ 12) × (back many (now syns) ≡ syndromesOf (bits (now marks))) ⌝ }
+    ensures { λ r. ⌜ fixSaid r (now (out .exit))
+        ≡ checked (matchChecks (matching want (bits (now (marks .entry))))) (notCorrected (now (out .entry)))
+        (flippedBy (now (msg .entry)) (matching want (bits (now (marks .entry))))) ⌝ }
 {
     let found = count(syns, many, want);
     if found == 0 {

@@ -41,7 +41,8 @@ struct Choice {
 // Whether bit i is in the one matching subset of the bits from i on, and what is then left to match.
 fn choose(marks: &[u8], i: usize, syns: &[u32; 12], k: usize, want: u32) -> Choice
     requires { ⌜ (i < length (now marks) * 8) × Left (bits (now marks)) (now syns) i k want (first (matching want (drop i (bits (now marks))))) ⌝ }
-    ensures { λ r. ⌜ Chosen (bits (now (marks .entry))) (now (syns .entry)) i want (first (matching want (drop i (bits (now (marks .entry)))))) (r .taken) (r .k) (r .want) ⌝ }
+    ensures { λ r. ⌜ Chosen (bits (now (marks .entry))) (now (syns .entry)) i want
+        (first (matching want (drop i (bits (now (marks .entry)))))) (r .taken) (r .k) (r .want) ⌝ }
 {
     if bit(marks, i) == 0 {
         return Choice { taken: 0, k, want };
@@ -72,8 +73,10 @@ pub(crate) struct Part {
 
 // The eight places of byte j in the one matching subset, and what is then left to match.
 pub(crate) fn choose_byte(marks: &[u8], j: usize, syns: &[u32; 12], k: usize, want: u32) -> Part
-    requires { ⌜ (j < length (now marks)) × (length (now marks) ≤ 14) × Left (bits (now marks)) (now syns) (j * 8) k want (first (matching want (drop (j * 8) (bits (now marks))))) ⌝ }
-    ensures { λ r. ⌜ ChosenByte (bits (now (marks .entry))) (now (syns .entry)) (j * 8) (first (matching want (drop (j * 8) (bits (now (marks .entry)))))) (r .mask) (r .taken) (r .k) (r .want) ⌝ }
+    requires { ⌜ (j < length (now marks)) × (length (now marks) ≤ 14)
+        × Left (bits (now marks)) (now syns) (j * 8) k want (first (matching want (drop (j * 8) (bits (now marks))))) ⌝ }
+    ensures { λ r. ⌜ ChosenByte (bits (now (marks .entry))) (now (syns .entry)) (j * 8)
+        (first (matching want (drop (j * 8) (bits (now (marks .entry)))))) (r .mask) (r .taken) (r .k) (r .want) ⌝ }
 {
     let mut p = Part {
         mask: 0,

@@ -60,7 +60,12 @@ reduce-lt p h = go (ltb p 16777216) refl
         let l : 16777216 ≤ p = ltb-false p 16777216 e in
         let z : p ≡ 1 * 16777216 + p % 16777216 = omega arith in
         let m : p % 16777216 < 16777216 = omega arith in
-        subst (λ (x : ℕ). x < 16777216) (sym (reduce-high p l ∙ ap (λ (x : ℕ). bitXor x generator) z ∙ xor-block 24 1 1 (p % 16777216) (generator % 16777216) m (omega arith) ∙ zero-add (bitXor (p % 16777216) (generator % 16777216))))
+        subst (λ (x : ℕ). x < 16777216)
+        (sym
+        (reduce-high p l
+        ∙ ap (λ (x : ℕ). bitXor x generator) z
+        ∙ xor-block 24 1 1 (p % 16777216) (generator % 16777216) m (omega arith)
+        ∙ zero-add (bitXor (p % 16777216) (generator % 16777216))))
         (xor-lt 24 (p % 16777216) (generator % 16777216) m (omega arith))
 
 pub shift-lt : (r b : ℕ) → r < 16777216 → b < 2 → shiftIn r b < 16777216

@@ -54,7 +54,9 @@ taken : (want : ℕ) (ms : List ℕ)
 unfolding matching xorOf
 taken want ms =
     filter-map (λ s. eqb (xorOf s) want) (λ s. eqb (xorOf s) (bitXor want (syndrome (length ms)))) (λ s. 1 ∷ s) (subsets ms)
-    (all-map (λ s. length s ≡ length ms) _ (λ s e. ap (λ (n : ℕ). eqb (bitXor (syndrome n) (xorOf s)) want) e ∙ eqb-move (syndrome (length ms)) (xorOf s) want) (subsets ms) (subsets-length ms))
+    (all-map (λ s. length s ≡ length ms) _
+    (λ s e. ap (λ (n : ℕ). eqb (bitXor (syndrome n) (xorOf s)) want) e ∙ eqb-move (syndrome (length ms)) (xorOf s) want) (subsets ms)
+    (subsets-length ms))
 
 pub matching-plain : (want : ℕ) (ms : List ℕ) → matching want (0 ∷ ms) ≡ map (λ s. 0 ∷ s) (matching want ms)
 unfolding matching subsets

@@ -94,7 +94,10 @@ written-step ms syns msg s j k want flips out mask taken k′ want′ h h′ w c
           ap (λ (n : ℕ). take n (set out j (bitXor (getD msg j 0) mask)) ++ flipped (drop (j + 1) msg) (drop ((j + 1) * 8) s)) (add-one j)
           ∙ ap (λ (u : List ℕ). u ++ flipped (drop (j + 1) msg) (drop ((j + 1) * 8) s)) (take-suc-set out j (bitXor (getD msg j 0) mask) h′)
           ∙ append-assoc (take j out) (bitXor (getD msg j 0) mask ∷ []) (flipped (drop (j + 1) msg) (drop ((j + 1) * 8) s))
-          ∙ ap (λ (u : List ℕ). take j out ++ u) (sym (flip-byte msg (drop (j * 8) s) j h ∙ ap₂ (λ (n : ℕ) (u : List ℕ). bitXor (getD msg j 0) n ∷ flipped (drop (j + 1) msg) u) (sym (ch .eight)) d))
+          ∙ ap (λ (u : List ℕ). take j out ++ u)
+          (sym
+          (flip-byte msg (drop (j * 8) s) j h
+          ∙ ap₂ (λ (n : ℕ) (u : List ℕ). bitXor (getD msg j 0) n ∷ flipped (drop (j + 1) msg) u) (sym (ch .eight)) d))
           ∙ w .bytes;
       left = subst₂ (λ (x : ℕ) (u : List ℕ). Left ms syns x k′ want′ u) e d (ch .left);
     }

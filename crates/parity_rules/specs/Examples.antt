@@ -5,7 +5,7 @@ use mathlib.Core.Path.{refl}
 use mathlib.Core.List.{List, [], _∷_}
 use lib.Bits.{bitXor}
 use lib.ListN.{getD, replicate, set}
-use Rattle.lists.specs.Listing.{Row, row, Agrees}
+use Rattle.lists.specs.Listing.{Row, row, Agrees, _also_}
 use Rattle.lists.specs.Lists.{filter}
 use Rattle.lists.specs.Checks.{checked}
 use Rattle.parity_rules.specs.Messages.{bits}
@@ -100,5 +100,8 @@ listing =
 
 -- the one claim
 pub corrections-agree : Agrees listing
-unfolding filter checked bits shiftIn divide remainderOf syndrome sizeOf subsets xorOf matching flipped correction lowBits times overlayOf remainderAnswer uplinkOverlay codeOverlay
-corrections-agree = (refl, (refl, (refl, (refl, (refl, (refl, (refl, (refl, (refl, (refl, (refl, (refl, (refl, (refl, (refl, (refl, (refl, (refl, (refl, (refl, tt))))))))))))))))))))
+unfolding filter checked bits shiftIn divide remainderOf syndrome sizeOf subsets xorOf matching flipped correction lowBits times overlayOf remainderAnswer
+    uplinkOverlay codeOverlay
+corrections-agree =
+    refl also refl also refl also refl also refl also refl also refl also refl also refl also refl also
+    refl also refl also refl also refl also refl also refl also refl also refl also refl also refl also tt

@@ -66,7 +66,9 @@ module _ (L : ℕ) (limits : List ℕ) where
   unfolding pass settled
   rest-step x a w = go (tried L (share limits (a .request .unit)) (x .placed) a)
     where
-      go : (s : Place) → glue (x .waiting) (elim s as (λ _. Board) [ At t ↦ pass L limits (x .placed ++ (entryAt a t ∷ [])) w | Nowhere ↦ stays a (pass L limits (x .placed) w) ]) ≡ rest (settled s a x) w
+      go : (s : Place)
+          → glue (x .waiting) (elim s as (λ _. Board) [ At t ↦ pass L limits (x .placed ++ (entryAt a t ∷ [])) w | Nowhere ↦ stays a (pass L limits (x .placed) w) ])
+          ≡ rest (settled s a x) w
       go (At t) = refl
       go Nowhere =
           ap (λ (l : List Ask). record { placed = pass L limits (x .placed) w .placed; waiting = l })
@@ -260,7 +262,8 @@ module _ (L : ℕ) (shares : List ℕ) (n : ℕ) (old : List Entry) (base : List
   all-passed s u p r rows counts rows′ counts′ x y a b e q =
       let t : Laid (turns L shares 8 begin) old p = subst (λ (k : ℕ). Laid (turns L shares k begin) old p) (le-antisymm a b) (e .laid) in
       subst (λ (P : ℕ). Laid (passOver P (s .ceiling) (turns P (s .guarantee) 8 begin)) old r) x
-      (subst (λ (g : List ℕ). Laid (passOver L (s .ceiling) (turns L g 8 begin)) old r) y (pass-laid L (s .ceiling) (turns L shares 8 begin) old p r t (q .answer)))
+      (subst (λ (g : List ℕ). Laid (passOver L (s .ceiling) (turns L g 8 begin)) old r) y
+      (pass-laid L (s .ceiling) (turns L shares 8 begin) old p r t (q .answer)))
 
 -- ---- the plan of the waiting list in the first m slots
 module _ (s : Setup) (n m : ℕ) (old : List Entry) (base : List Ask) (k : n ≡ min m 128) (h : length base ≡ 128) where

@@ -60,7 +60,14 @@ and-swap false q r s t = refl
 pub clear-swap : (d e : Entry) → clear d e ≡ clear e d
 unfolding clear
 clear-swap d e =
-    rw (apart-swap (transmits d) (transmits e), apart-swap (transmits d) (listens e), apart-swap (listens d) (transmits e), apart-swap (listens d) (listens e), apart-swap (spans d) (spans e), eqb-swap (d .ask .request .address) (e .ask .request .address))
+    rw (
+      apart-swap (transmits d) (transmits e),
+      apart-swap (transmits d) (listens e),
+      apart-swap (listens d) (transmits e),
+      apart-swap (listens d) (listens e),
+      apart-swap (spans d) (spans e),
+      eqb-swap (d .ask .request .address) (e .ask .request .address),
+    )
     (and-swap
     (apart (transmits e) (transmits d))
     (apart (listens e) (transmits d))

@@ -71,7 +71,11 @@ module _ (s : Setup) (ok : Accepted s) (w : List Ask) (Q : List Entry → List A
   of-turns : (n : ℕ) → n ≤ 8 → Q (turns (s .period) (s .guarantee) n (nothingPlaced w) .placed) (turns (s .period) (s .guarantee) n (nothingPlaced w) .waiting)
   unfolding turns
   of-turns zero h = start
-  of-turns (suc n) h = step (alone n (s .guarantee)) (turn-within s ok n h) _ _ _ _ (passed (s .period) (alone n (s .guarantee)) (turns (s .period) (s .guarantee) n (nothingPlaced w) .placed) (turns (s .period) (s .guarantee) n (nothingPlaced w) .waiting)) (of-turns n (omega arith))
+  of-turns (suc n) h =
+      step (alone n (s .guarantee)) (turn-within s ok n h) _ _ _ _
+      (passed (s .period) (alone n (s .guarantee)) (turns (s .period) (s .guarantee) n (nothingPlaced w) .placed)
+      (turns (s .period) (s .guarantee) n (nothingPlaced w) .waiting))
+      (of-turns n (omega arith))
 
   pub of-plan : Q (plan s w .placed) (plan s w .waiting)
   unfolding plan Within
@@ -116,10 +120,14 @@ module _ (s : Setup) (ok : Accepted s) (w : List Ask) (pw : All (Proper s) w) wh
         endsInPeriod = of-plan s ok w (λ es w. All (λ (e : Entry). spans e .hi ≤ s .period) es) (all-nil _) (λ limits k es es′ w w′ r h. keeps-ends r h);
         atLeast = λ u h. omega (arith, afters s (ok .room) w pw 8 (le-refl 8) .got u h, grows (λ (e : Entry). ofUnit u (e .ask)) second);
         firstPlaced = first-part;
-        atMost = λ u. of-plan s ok w (λ es w. taken u es ≤ share (s .ceiling) u) (omega (arith, count-nil (λ (e : Entry). ofUnit u (e .ask)))) (λ limits k es es′ w w′ r h. keeps-ceiling u (share (s .ceiling) u) (k u) r h);
+        atMost =
+            λ u. of-plan s ok w (λ es w. taken u es ≤ share (s .ceiling) u) (omega (arith, count-nil (λ (e : Entry). ofUnit u (e .ask))))
+            (λ limits k es es′ w w′ r h. keeps-ceiling u (share (s .ceiling) u) (k u) r h);
         leftFor = why-left second;
         keepsOrder = of-plan s ok w (λ es v. Sublistᴰ v w) (Sublistᴰ·refl w) (λ limits k es es′ w w′ r h. Sublistᴰ·trans (keeps-order r) h);
-        noneLost = λ f. of-plan s ok w (λ es v. countOf (λ (e : Entry). f (e .ask)) es + countOf f v ≡ countOf f w) (omega (arith, count-nil (λ (e : Entry). f (e .ask)))) (λ limits k es es′ w w′ r h. keeps-all f r ∙ h);
+        noneLost =
+            λ f. of-plan s ok w (λ es v. countOf (λ (e : Entry). f (e .ask)) es + countOf f v ≡ countOf f w)
+            (omega (arith, count-nil (λ (e : Entry). f (e .ask)))) (λ limits k es es′ w w′ r h. keeps-all f r ∙ h);
         numbered = of-plan s ok w (λ es w. Numbered (s .period) es) (λ z k l. absurd (omega arith)) (λ limits k es es′ w w′ r h. keeps-numbers r h);
         byAge = second-part;
         allOpen = of-plan s ok w (λ es w. All (λ (e : Entry). e .status ≡ Open) es) (all-nil _) (λ limits k es es′ w w′ r h. keeps-open r h);

@@ -137,11 +137,15 @@ module _ (s : Setup) where
                 ∙ ap (λ (v : List Ask). v ++ take (k - taken u (es ++ (entryAt a t ∷ []))) (filter (ofUnit u) w)) (map-snoc es (entryAt a t))
                 ∙ ap (λ (i : ℕ). map askOf es ++ (a ∷ []) ++ take (k - i) (filter (ofUnit u) w)) n
                 ∙ append-snoc (map askOf es) a (take (k - suc (taken u es)) (filter (ofUnit u) w))
-                ∙ sym (ap (λ (v : List Ask). map askOf es ++ take (k - taken u es) v) (filter-yes (ofUnit u) a w e) ∙ ap (λ (i : ℕ). map askOf es ++ take i (a ∷ filter (ofUnit u) w)) d);
+                ∙ sym
+                (ap (λ (v : List Ask). map askOf es ++ take (k - taken u es) v) (filter-yes (ofUnit u) a w e)
+                ∙ ap (λ (i : ℕ). map askOf es ++ take i (a ∷ filter (ofUnit u) w)) d);
             others =
                 λ v ne.
-                let f : ofUnit v a ≡ false = ne-eqb (a .request .unit) v (λ (g : a .request .unit ≡ v). ne (sym g ∙ q)) in
-                (ih .others v ne .0 ∙ count-snoc-no (λ (e : Entry). ofUnit v (e .ask)) es (entryAt a t) f, ih .others v ne .1 ∙ sym (filter-no (ofUnit v) a w f));
+                let f : ofUnit v a ≡ false = ne-eqb (a .request .unit) v (λ (g : a .request .unit ≡ v). ne (sym g ∙ q)) in (
+                  ih .others v ne .0 ∙ count-snoc-no (λ (e : Entry). ofUnit v (e .ask)) es (entryAt a t) f,
+                  ih .others v ne .1 ∙ sym (filter-no (ofUnit v) a w f),
+                );
           }
 
       -- what a request that stays leaves of the other units
@@ -232,7 +236,8 @@ module _ (s : Setup) (fit : total (share (s .guarantee)) 8 * size s ≤ s .perio
       let one = total-suc (share (s .guarantee)) n in
       let none = i .untouched n (le-refl n) in
       let all : k - taken n (after n .placed) ≡ k = omega (arith, none .0) in
-      let room : total (share (s .guarantee)) (suc n) * size s ≤ s .period = omega (arith, mul-le-mul-right (size s) (total-le (share (s .guarantee)) (suc n) 8 h)) in
+      let room : total (share (s .guarantee)) (suc n) * size s ≤ s .period =
+      omega (arith, mul-le-mul-right (size s) (total-le (share (s .guarantee)) (suc n) 8 h)) in
       let t = turned s n k (alone n (s .guarantee)) its (λ v ne. alone-other n v (s .guarantee) ne) (total (share (s .guarantee)) (suc n)) room r (i .packed)
       (i .proper) (omega (arith, i .few)) in
       record {

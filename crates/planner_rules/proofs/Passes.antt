@@ -47,7 +47,10 @@ module _ (L : ℕ) (limits : List ℕ) where
   passed es [] = done
   passed es (a ∷ w) = go (tried L (share limits (a .request .unit)) es a) (try-is es a) (λ es. passed es w)
     where
-      go : (s : Place) → Tried es a s → ((es : List Entry) → Passed L limits es w (pass L limits es w .placed) (pass L limits es w .waiting)) → Passed L limits es (a ∷ w) ((elim s as (λ _. Board) [ At t ↦ pass L limits (es ++ (entryAt a t ∷ [])) w | Nowhere ↦ stays a (pass L limits es w) ]) .placed) ((elim s as (λ _. Board) [ At t ↦ pass L limits (es ++ (entryAt a t ∷ [])) w | Nowhere ↦ stays a (pass L limits es w) ]) .waiting)
+      go : (s : Place) → Tried es a s → ((es : List Entry) → Passed L limits es w (pass L limits es w .placed) (pass L limits es w .waiting))
+          → Passed L limits es (a ∷ w)
+          ((elim s as (λ _. Board) [ At t ↦ pass L limits (es ++ (entryAt a t ∷ [])) w | Nowhere ↦ stays a (pass L limits es w) ]) .placed)
+          ((elim s as (λ _. Board) [ At t ↦ pass L limits (es ++ (entryAt a t ∷ [])) w | Nowhere ↦ stays a (pass L limits es w) ]) .waiting)
       go (At t) h ih = put a t (h .0) (h .1) (ih (es ++ (entryAt a t ∷ [])))
       go Nowhere h ih = stay a h (ih es)
 

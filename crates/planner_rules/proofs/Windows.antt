@@ -79,7 +79,10 @@ module _ (d e : Entry) (h : clear d e ≡ true) where
 
   apart-whole : sameAircraft d e ≡ true → apart (spans d) (spans e) ≡ true
   unfolding clear
-  apart-whole same = go (sameAircraft d e) same (and-right (apart (transmits d) (transmits e) && apart (transmits d) (listens e) && apart (listens d) (transmits e) && apart (listens d) (listens e)) _ h)
+  apart-whole same =
+      go (sameAircraft d e) same
+      (and-right
+      (apart (transmits d) (transmits e) && apart (transmits d) (listens e) && apart (listens d) (transmits e) && apart (listens d) (listens e)) _ h)
     where
       go : (b : Bool) → b ≡ true → (not b || apart (spans d) (spans e)) ≡ true → apart (spans d) (spans e) ≡ true
       go true s q = q
@@ -113,7 +116,13 @@ module _ (x : ℕ) where
     where
       go : (s : Bool) → holds x (transmits e) ≡ s → (t : Bool) → holds x (listens e) ≡ t → countOf (holds x) (windows es) ≤ 1
           → countOf (holds x) (transmits e ∷ listens e ∷ windows es) ≤ 1
-      go true p t q ih = omega (arith, count-yes (holds x) (transmits e) (listens e ∷ windows es) p, count-no (holds x) (listens e) (windows es) (own e p), free e es (c .0) (inl p))
+      go true p t q ih =
+          omega (
+            arith,
+            count-yes (holds x) (transmits e) (listens e ∷ windows es) p,
+            count-no (holds x) (listens e) (windows es) (own e p),
+            free e es (c .0) (inl p),
+          )
       go false p true q ih =
           omega (arith, count-no (holds x) (transmits e) (listens e ∷ windows es) p, count-yes (holds x) (listens e) (windows es) q, free e es (c .0) (inr q))
       go false p false q ih = omega (arith, count-no (holds x) (transmits e) (listens e ∷ windows es) p, count-no (holds x) (listens e) (windows es) q)

@@ -3,7 +3,7 @@
 use Prim.Native.Nat.{ℕ, _+_, _*_}
 use mathlib.Core.Path.{refl}
 use mathlib.Core.List.{List, [], _∷_, map}
-use Rattle.lists.specs.Listing.{Row, row, Agrees}
+use Rattle.lists.specs.Listing.{Row, row, Agrees, _also_}
 use Rattle.lists.specs.Lists.{countOf, filter, total, every}
 use Rattle.planner_rules.specs.declared.request.Ask.{Ask}
 use Rattle.planner_rules.specs.declared.entry.Entry.{Entry}
@@ -50,7 +50,7 @@ listing =
 
 pub edges-agree : Agrees listing
 unfolding checked countOf total every sentFor replyFor apart clear clearOf fits first place sharesFit setupNumber tried pass alone turns plan
-edges-agree = (refl, (refl, (refl, (refl, (refl, tt)))))
+edges-agree = refl also refl also refl also refl also refl also tt
 
 -- ---- exchanges: sent, from and to, in ticks from the start
 abbrev ticks : Course → List ℕ
@@ -163,16 +163,16 @@ lines =
 
 lines-agree : Agrees lines
 unfolding filter sentFor replyFor apart clear clearOf fits withoutIt toldBy
-lines-agree = (refl, (refl, (refl, (refl, (refl, tt)))))
+lines-agree = refl also refl also refl also refl also refl also tt
 
 exchanges-agree : Agrees exchanges
 unfolding sentFor replyFor
-exchanges-agree = (refl, (refl, (refl, (refl, (refl, (refl, (refl, (refl, tt))))))))
+exchanges-agree = refl also refl also refl also refl also refl also refl also refl also refl also tt
 
 setups-agree : Agrees setups
 unfolding checked total every sharesFit setupNumber
-setups-agree = (refl, (refl, (refl, (refl, (refl, (refl, tt))))))
+setups-agree = refl also refl also refl also refl also refl also refl also tt
 
 plans-agree : Agrees plans
 unfolding countOf sentFor replyFor apart clear clearOf fits first place tried pass alone turns plan
-plans-agree = (refl, (refl, (refl, (refl, (refl, (refl, (refl, (refl, tt))))))))
+plans-agree = refl also refl also refl also refl also refl also refl also refl also refl also tt

@@ -18,7 +18,8 @@ pub number-none : (s : List ℕ) (at : ℕ) → 0 ≡ numberAt s at 0
 unfolding numberAt
 number-none s at = refl
 
-pub number-more : (s : List ℕ) (at from i n b : ℕ) → n ≡ numberAt s (at + from) i → b ≡ getD s (at + (from + i)) 0 → n * 256 + b ≡ numberAt s (at + from) (i + 1)
+pub number-more : (s : List ℕ) (at from i n b : ℕ) → n ≡ numberAt s (at + from) i → b ≡ getD s (at + (from + i)) 0
+    → n * 256 + b ≡ numberAt s (at + from) (i + 1)
 unfolding numberAt
 number-more s at from i n b e h = rw (add-one, e, h, add-assoc at from i)
 
@@ -41,11 +42,29 @@ byte-beyond s p r e h = sym (List·getD-eq-default s 0 {n = p} (omega (arith, e)
 
 -- eight bytes, each at its place
 module _ (s : List ℕ) (at from : ℕ) where
-  pub eight-of : {a b c d e f g h : ℕ} → a ≡ getD s (at + from) 0 → b ≡ getD s (at + (from + 1)) 0 → c ≡ getD s (at + (from + 2)) 0 → d ≡ getD s (at + (from + 3)) 0
+  pub eight-of : {a b c d e f g h : ℕ} → a ≡ getD s (at + from) 0 → b ≡ getD s (at + (from + 1)) 0 → c ≡ getD s (at + (from + 2)) 0
+      → d ≡ getD s (at + (from + 3)) 0
       → e ≡ getD s (at + (from + 4)) 0 → f ≡ getD s (at + (from + 5)) 0 → g ≡ getD s (at + (from + 6)) 0 → h ≡ getD s (at + (from + 7)) 0
       → _≡_ {A = List ℕ} (a ∷ b ∷ c ∷ d ∷ e ∷ f ∷ g ∷ h ∷ []) (eightAt s (at + from))
   unfolding eightAt
-  eight-of ea eb ec ed ee ef eg eh = rw (ea, eb, ec, ed, ee, ef, eg, eh, add-assoc at from 1, add-assoc at from 2, add-assoc at from 3, add-assoc at from 4, add-assoc at from 5, add-assoc at from 6, add-assoc at from 7)
+  eight-of ea eb ec ed ee ef eg eh =
+      rw (
+        ea,
+        eb,
+        ec,
+        ed,
+        ee,
+        ef,
+        eg,
+        eh,
+        add-assoc at from 1,
+        add-assoc at from 2,
+        add-assoc at from 3,
+        add-assoc at from 4,
+        add-assoc at from 5,
+        add-assoc at from 6,
+        add-assoc at from 7,
+      )
 
 -- ---- what stands at the place itself
 

@@ -86,4 +86,19 @@ bodies =
 -- ---- the one claim
 pub reader-agrees : Agrees (places ++ bodies)
 unfolding checked bodyLength messageLength numberAt recordAt saidAt eightAt
-reader-agrees = (refl, (refl, (refl, (refl, (refl, (refl, (refl, (refl, (refl, (refl, (refl, (refl, (refl, (refl, (refl, (refl, (refl, (refl, (refl, (refl, (refl, (refl, tt))))))))))))))))))))))
+reader-agrees = (
+  refl,
+  (
+    refl,
+    (
+      refl,
+      (
+        refl,
+        (
+          refl,
+          (refl, (refl, (refl, (refl, (refl, (refl, (refl, (refl, (refl, (refl, (refl, (refl, (refl, (refl, (refl, (refl, (refl, tt))))))))))))))))),
+        ),
+      ),
+    ),
+  ),
+)

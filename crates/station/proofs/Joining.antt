@@ -23,7 +23,8 @@ module _ (s : Station) (tag : ℕ) (w : Asks) (b : Planned) (still : Waiting) (a
     (ew : w ≡ asksAs (map (askFor (s .targets)) (requestsOf (s .waiting))))
     (eb : b ≡ inSlots (plan (s .setup) (asksOf w)) (s .plan .list) (w .list))
     (es : still ≡ waitingAs (map requestOf (take (b .waiting) (b .asks))) (s .waiting)) (ea : aged ≡ targetsOlder (s .targets)) where
-  pub plan-is : _≡_ {A = Station} (record { targets = aged; waiting = still; plan = record { list = b .entries; n = b .placed; tag = tag }; setup = s .setup }) (nextPlan s tag)
+  pub plan-is : _≡_ {A = Station}
+      (record { targets = aged; waiting = still; plan = record { list = b .entries; n = b .placed; tag = tag }; setup = s .setup }) (nextPlan s tag)
   unfolding nextPlan boardFor
   plan-is =
       let q : b ≡ inSlots (boardFor s) (s .plan .list) (w .list) = eb ∙ ap (λ (v : List Ask). inSlots (plan (s .setup) v) (s .plan .list) (w .list))

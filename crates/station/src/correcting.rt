@@ -72,7 +72,8 @@ fn on_trial(
     out: &mut [u8],
 ) -> Corrected
     requires { ⌜ 3 < length (now out) ⌝ }
-    ensures { λ r. ⌜ asCorrection r (now (out .exit)) ≡ correctedAs format (now (msg .entry)) (now (marks .entry)) address limit (now (out .entry)) (now (out .exit)) ⌝ }
+    ensures { λ r. ⌜ asCorrection r (now (out .exit))
+        ≡ correctedAs format (now (msg .entry)) (now (marks .entry)) address limit (now (out .entry)) (now (out .exit)) ⌝ }
 {
     let f = parity::correct(msg, marks, address, limit, out);
     let n = number(f);
@@ -116,7 +117,8 @@ pub(crate) fn correct_as(
     out: &mut [u8],
 ) -> Corrected
     requires { ⌜ sized (length (now msg)) (length (now marks)) (length (now out)) ≡ true ⌝ }
-    ensures { λ r. ⌜ asCorrection r (now (out .exit)) ≡ correctedAs format (now (msg .entry)) (now (marks .entry)) address limit (now (out .entry)) (now (out .entry)) ⌝ }
+    ensures { λ r. ⌜ asCorrection r (now (out .exit))
+        ≡ correctedAs format (now (msg .entry)) (now (marks .entry)) address limit (now (out .entry)) (now (out .entry)) ⌝ }
 {
     let n = msg.len();
     let mut scratch = [0u8; 14];

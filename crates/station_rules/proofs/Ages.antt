@@ -196,7 +196,8 @@ module _ (i : Kind) (a : ℕ) where
             → Agree i a (targetsOf (pick d (targetsAs (heardList (q .request) v t) t) t)) (pick (isFrom i a q) (said v 0) x)
         go true m =
             subst (λ (l : List Target). Agree i a l (pick (isFrom i a q) (said v 0) x)) (sym (targets-are (heardList (q .request) v t) t))
-            (agree-put (targetsOf t) x (pick (isFrom i a q) (said v 0) x) (q .request .address) (saidIn (expected (q .request)) v (targetAt (q .request .address) t))
+            (agree-put (targetsOf t) x (pick (isFrom i a q) (said v 0) x) (q .request .address)
+            (saidIn (expected (q .request)) v (targetAt (q .request .address) t))
             (said-address (expected (q .request)) v (targetAt (q .request .address) t) ∙ address-of (q .request .address) (targetsOf t) m) m
             (new-said (eqb (q .request .address) a) (draws i (holdsID (expected (q .request)))) refl refl m)
             (off-said (eqb (q .request .address) a) refl)

@@ -72,7 +72,8 @@ left-back s h tag =
     ap (map (askFor (s .targets))) (plan-leaves s tag)
     ∙ same-back (s .targets) (boardFor s .waiting)
     (left-each (s .setup) (h .shares) (asked s) (Same (s .targets))
-    (all-image (askFor (s .targets)) (λ (q : Request). Same (s .targets) (askFor (s .targets) q)) (Same (s .targets)) (λ q k. k) (requestsOf (s .waiting)) (each (requestsOf (s .waiting)))))
+    (all-image (askFor (s .targets)) (λ (q : Request). Same (s .targets) (askFor (s .targets) q)) (Same (s .targets)) (λ q k. k)
+    (requestsOf (s .waiting)) (each (requestsOf (s .waiting)))))
   where
     each : (v : List Request) → All (λ (q : Request). Same (s .targets) (askFor (s .targets) q)) v
     each [] = tt
@@ -82,5 +83,7 @@ pub plans : (cs : List Call) → Plans cs
 unfolding boardFor
 plans cs =
     record {
-      demand = λ tag. rw (plan-shows (after cs) tag, left-back (after cs) (always-kept cs) tag) (demand3 (after cs .setup) (always-kept cs .shares) (asked (after cs)) (proper (after cs) (always-kept cs)));
+      demand =
+          λ tag. rw (plan-shows (after cs) tag, left-back (after cs) (always-kept cs) tag)
+          (demand3 (after cs .setup) (always-kept cs .shares) (asked (after cs)) (proper (after cs) (always-kept cs)));
     }

@@ -164,7 +164,8 @@ pub proper : (s : Station) → Kept s → All (Proper (s .setup)) (asked s)
 unfolding asked
 proper s h =
     all-image (askFor (s .targets)) (Waits (s .targets)) (Proper (s .setup))
-    (λ q k. let r = all-look (InReach (s .setup .reach)) (q .address) (targetsOf (s .targets)) (h .reach) (k .1) in record { unitIn = request-in q (k .0) .0; nearIn = r .0; farIn = r .1 })
+    (λ q k. let r = all-look (InReach (s .setup .reach)) (q .address) (targetsOf (s .targets)) (h .reach)
+    (k .1) in record { unitIn = request-in q (k .0) .0; nearIn = r .0; farIn = r .1 })
     (requestsOf (s .waiting)) (h .waiting)
 
 -- what is left waits as before, and each entry is of a request that waited
@@ -209,10 +210,16 @@ placed-entered : (s : Station) (tag : ℕ) → Kept s → Entries (s .targets) (
 unfolding boardFor
 placed-entered s tag h =
     let n = demand3 (s .setup) (h .shares) (asked s) (proper s h) .noneLost (λ (a : Ask). not (waited s a)) in
-    let w = none-fail (waited s) (asked s) (all-map (Was s) (λ (a : Ask). waited s a ≡ true) (λ a k. and-yes (requestRanged (a .request)) (inList (a .request .address) (s .targets)) (k .0) (k .1)) (asked s) (were s h)) in
+    let w =
+    none-fail (waited s) (asked s)
+    (all-map (Was s) (λ (a : Ask). waited s a ≡ true)
+    (λ a k. and-yes (requestRanged (a .request)) (inList (a .request .address) (s .targets)) (k .0) (k .1)) (asked s) (were s h)) in
     subst (All (Entered (s .targets))) (sym (plan-shows s tag))
     (all-map (λ (e : Entry). waited s (e .ask) ≡ true) (Entered (s .targets))
-    (λ e k. (and-left (requestRanged (e .ask .request)) (inList (e .ask .request .address) (s .targets)) k, λ _. and-right (requestRanged (e .ask .request)) (inList (e .ask .request .address) (s .targets)) k))
+    (λ e k. (
+      and-left (requestRanged (e .ask .request)) (inList (e .ask .request .address) (s .targets)) k,
+      λ _. and-right (requestRanged (e .ask .request)) (inList (e .ask .request .address) (s .targets)) k,
+    ))
     (boardFor s .placed)
     (all-pass (λ (e : Entry). waited s (e .ask)) (boardFor s .placed) (omega (arith, n, w))))
 
@@ -248,7 +255,8 @@ asked-keeps s q h g f n w e = (
   subst (All (Waits (s .targets))) (sym e) (all-snoc (Waits (s .targets)) (requestsOf (s .waiting)) q (h .waiting) (g, f)),
   λ u. subst (λ (v : List Request). countOf (isOf u) v ≤ 16) (sym e)
       (rw (count-snoc (isOf u) (requestsOf (s .waiting)) q)
-      (few (isOf u q) _ u (q .unit) refl (h .sixteen u) (λ (d : q .unit ≡ u). subst (λ (k : ℕ). countOf (isOf k) (requestsOf (s .waiting)) < 16) d (some-room (q .unit) (s .waiting) n)))),
+      (few (isOf u q) _ u (q .unit) refl (h .sixteen u)
+      (λ (d : q .unit ≡ u). subst (λ (k : ℕ). countOf (isOf k) (requestsOf (s .waiting)) < 16) d (some-room (q .unit) (s .waiting) n)))),
 )
 
 -- ---- a target removed
@@ -274,11 +282,19 @@ without-keeps s a h =
     let w = requests-are (filter (λ (q : Request). not (eqb (q .address) a)) (requestsOf (s .waiting))) (s .waiting) in
     record {
       shares = h .shares;
-      reach = rw t (all-kept (InReach (s .setup .reach)) (InReach (s .setup .reach)) (λ (x : Target). not (isAt a x)) (λ x p k. k) (targetsOf (s .targets)) (h .reach));
+      reach =
+          rw t
+          (all-kept (InReach (s .setup .reach)) (InReach (s .setup .reach)) (λ (x : Target). not (isAt a x)) (λ x p k. k) (targetsOf (s .targets))
+          (h .reach));
       waiting =
           rw w
           (all-kept (Waits (s .targets)) _ (λ (q : Request). not (eqb (q .address) a))
-          (λ q p j. (j .0, ap (has (q .address)) t ∙ has-other (q .address) a (targetsOf (s .targets)) (eqb-false (q .address) a (not-true (eqb (q .address) a) p)) ∙ j .1))
+          (λ q p j. (
+            j .0,
+            ap (has (q .address)) t
+                ∙ has-other (q .address) a (targetsOf (s .targets)) (eqb-false (q .address) a (not-true (eqb (q .address) a) p))
+                ∙ j .1,
+          ))
           (requestsOf (s .waiting)) (h .waiting));
       sixteen = λ u. rw w (omega (arith, h .sixteen u, count-kept (isOf u) (λ (q : Request). not (eqb (q .address) a)) (requestsOf (s .waiting))));
       entries =
@@ -308,7 +324,8 @@ reply-keeps s k m h =
       sixteen = h .sixteen;
       entries =
           entries-on (s .targets) t (planAnswered k (s .plan)) (j .1)
-          (rw (entries-are (set (entriesOf (s .plan)) k (withStatus Answered (getD (entriesOf (s .plan)) k noEntry))) (s .plan)) (set-entered (s .targets) (entriesOf (s .plan)) k noEntry (h .entries)));
+          (rw (entries-are (set (entriesOf (s .plan)) k (withStatus Answered (getD (entriesOf (s .plan)) k noEntry))) (s .plan))
+          (set-entered (s .targets) (entriesOf (s .plan)) k noEntry (h .entries)));
     }
 
 blank-accepted : setupNumber (beforeSetup .setup) ≡ 0
@@ -380,7 +397,11 @@ unfolding unitFull
 six cs u l =
     let h = always-kept cs in
     either _ _
-    (λ e. lt-leb _ _ (fewer (λ (q : Request). q .unit) (requestsOf (after cs .waiting)) u (all-map (Waits (after cs .targets)) (λ (q : Request). q .unit < 8) (λ q k. request-in q (k .0) .0) (requestsOf (after cs .waiting)) (h .waiting)) (λ v _. h .sixteen v) l (leb-false 16 _ e)))
+    (λ e. lt-leb _ _
+    (fewer (λ (q : Request). q .unit) (requestsOf (after cs .waiting)) u
+    (all-map (Waits (after cs .targets)) (λ (q : Request). q .unit < 8) (λ q k. request-in q (k .0) .0) (requestsOf (after cs .waiting))
+    (h .waiting))
+    (λ v _. h .sixteen v) l (leb-false 16 _ e)))
   where
     either : (a b : Bool) → (a ≡ false → b ≡ false) → a || b ≡ a
     either true b h = refl

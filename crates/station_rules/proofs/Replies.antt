@@ -16,7 +16,8 @@ use Rattle.station_rules.specs.Demands.{Believed}
 use Rattle.station_rules.proofs.Came.{Taken, taken}
 
 module _ (s : Station) (r : Received) (p : Passed (settleChecks s r)) where
-  is-correction : fixSaid (Flips (corrected s r .flips)) (corrected s r .output) ≡ correction (r .message) (r .marks) (requestFor s r .address) (s .setup .limit) (r .output)
+  is-correction : fixSaid (Flips (corrected s r .flips)) (corrected s r .output) ≡ correction (r .message) (r .marks) (requestFor s r .address)
+      (s .setup .limit) (r .output)
   unfolding correction correctedChecks
   is-correction =
       end (notCorrected (r .output)) (corrected s r) all

@@ -55,4 +55,6 @@ pub record InTime (e : Entry) (s : ℕ) (msg : List ℕ) (delay : ℤ) : Type 0 
 
 -- demand 3: every plan meets Demand3 against the waiting list that it was made from, in the first period and in every later one
 pub record Plans (cs : List Call) : Type 0 where
-  pub demand : (tag : ℕ) → Demand3 (after cs .setup) (asked (after cs)) (entriesOf (nextPlan (after cs) tag .plan)) (map (askFor (after cs .targets)) (requestsOf (nextPlan (after cs) tag .waiting)))
+  pub demand : (tag : ℕ)
+      → Demand3 (after cs .setup) (asked (after cs)) (entriesOf (nextPlan (after cs) tag .plan))
+      (map (askFor (after cs .targets)) (requestsOf (nextPlan (after cs) tag .waiting)))

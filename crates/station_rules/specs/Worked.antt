@@ -5,7 +5,7 @@ use mathlib.Core.List.{List, [], _∷_, _++_, map}
 use lib.ListN.{length, replicate}
 use lib.IntN.{ℤ, pos, negsuc}
 use Rattle.lists.specs.Checks.{checked}
-use Rattle.lists.specs.Listing.{Row, row, Agrees}
+use Rattle.lists.specs.Listing.{Row, row, Agrees, _also_}
 use Rattle.lists.specs.Lists.{countOf, total, every, indexOf, filter, over}
 use Rattle.parity_rules.specs.Messages.{bits}
 use Rattle.parity_rules.specs.Division.{shiftIn, divide, remainderOf, syndrome}
@@ -164,5 +164,11 @@ listing =
 
 -- the one claim
 pub calls-agree : Agrees listing
-unfolding checked countOf total every indexOf filter over selectiveRanged sentFor replyFor apart clear clearOf fits first place sharesFit setupNumber plans.tried plans.pass plans.alone plans.turns plans.plan beforeSetup emptied setUp targetRanged requestRanged unitFull newTarget without removed moved requested reported asked boardFor nextPlan after expected drawn startOf inWindow targetsHeard afterReply valueIn settled replied bits shiftIn divide remainderOf syndrome sizeOf subsets xorOf matching flipped headOf
-calls-agree = (refl, (refl, (refl, (refl, (refl, (refl, (refl, (refl, (refl, (refl, (refl, (refl, (refl, (refl, (refl, (refl, (refl, (refl, (refl, (refl, (refl, (refl, (refl, (refl, (refl, (refl, (refl, (refl, (refl, (refl, (refl, (refl, tt))))))))))))))))))))))))))))))))
+unfolding checked countOf total every indexOf filter over selectiveRanged sentFor replyFor apart clear clearOf fits first place sharesFit setupNumber
+    plans.tried plans.pass plans.alone plans.turns plans.plan beforeSetup emptied setUp targetRanged requestRanged unitFull newTarget without removed moved
+    requested reported asked boardFor nextPlan after expected drawn startOf inWindow targetsHeard afterReply valueIn settled replied bits shiftIn divide
+    remainderOf syndrome sizeOf subsets xorOf matching flipped headOf
+calls-agree =
+    refl also refl also refl also refl also refl also refl also refl also refl also refl also refl also refl also refl also refl also refl also refl also
+    refl also refl also refl also refl also refl also refl also refl also refl also refl also refl also refl also refl also refl also refl also refl also
+    refl also refl also tt

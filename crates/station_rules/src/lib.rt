@@ -1,4 +1,5 @@
-// The state of a station. What its calls answer stands in specs/, and what holds of every history of calls in proofs/; the calls themselves are in crate station.
+// The state of a station. What its calls answer stands in specs/, and what holds of every history of calls in proofs/;
+// the calls themselves are in crate station.
 mod state;
 
 pub use state::Outcome;

@@ -92,7 +92,17 @@ module _ (s : List ℕ) (n b : ℕ) (st : Station) {kind : ℕ} where
   of-none h out =
       let not-6 : kind ≡ 6 → ⊥ = λ e. ⊎-elim (λ l. omega arith) (λ l. omega arith) out in
       let not-7 : kind ≡ 7 → ⊥ = λ e. ⊎-elim (λ l. omega arith) (λ l. omega arith) out in
-      rw (ne-eqb kind 1 (h .not-1), ne-eqb kind 2 (h .not-2), ne-eqb kind 3 (h .not-3), ne-eqb kind 4 (h .not-4), ne-eqb kind 5 (h .not-5), ne-eqb kind 6 not-6, ne-eqb kind 7 not-7, ne-eqb kind 8 (h .not-8), ne-eqb kind 9 (h .not-9))
+      rw (
+        ne-eqb kind 1 (h .not-1),
+        ne-eqb kind 2 (h .not-2),
+        ne-eqb kind 3 (h .not-3),
+        ne-eqb kind 4 (h .not-4),
+        ne-eqb kind 5 (h .not-5),
+        ne-eqb kind 6 not-6,
+        ne-eqb kind 7 not-7,
+        ne-eqb kind 8 (h .not-8),
+        ne-eqb kind 9 (h .not-9),
+      )
 
 -- the buffer lent for a corrected message: the front of fourteen zeros
 pub front-zeros : (kind n : ℕ) → n ≡ messageLength kind → take {A = ℕ} n (replicate 14 0) ≡ zeros kind

@@ -38,7 +38,9 @@ fn obey_setup(s: &[u8], b: usize, n: u32, st: Station, out: &mut [u8], at: usize
 }
 
 fn obey_new_target(s: &[u8], b: usize, n: u32, st: Station, out: &mut [u8], at: usize) -> Done
-    ensures { λ r. ⌜ Did (answered n 2 (newTarget st (edgesAt (now (s .entry)) b .address) (edgesAt (now (s .entry)) b .near) (edgesAt (now (s .entry)) b .far))) at (now (out .entry)) (now (out .exit)) r ⌝ }
+    ensures { λ r. ⌜ Did (answered n 2
+        (newTarget st (edgesAt (now (s .entry)) b .address) (edgesAt (now (s .entry)) b .near) (edgesAt (now (s .entry)) b .far)))
+        at (now (out .entry)) (now (out .exit)) r ⌝ }
 {
     let e = reader::edges_at(s, b);
     let a = station::add_target(st, e.address, e.near, e.far);
@@ -100,7 +102,9 @@ fn obey_report(s: &[u8], b: usize, n: u32, st: Station, out: &mut [u8], at: usiz
 }
 
 fn obey_move(s: &[u8], b: usize, n: u32, st: Station, out: &mut [u8], at: usize) -> Done
-    ensures { λ r. ⌜ Did (answered n 9 (moved st (edgesAt (now (s .entry)) b .address) (edgesAt (now (s .entry)) b .near) (edgesAt (now (s .entry)) b .far))) at (now (out .entry)) (now (out .exit)) r ⌝ }
+    ensures { λ r. ⌜ Did (answered n 9
+        (moved st (edgesAt (now (s .entry)) b .address) (edgesAt (now (s .entry)) b .near) (edgesAt (now (s .entry)) b .far)))
+        at (now (out .entry)) (now (out .exit)) r ⌝ }
 {
     let e = reader::edges_at(s, b);
     let a = station::move_target(st, e.address, e.near, e.far);

@@ -46,11 +46,14 @@ case third =
     ++ (5 ∷ 0 ∷ 0 ∷ 0 ∷ 0 ∷ [])
     ++ (8 ∷ 0 ∷ 0 ∷ 1 ∷ [])
 
-case-p1 : transcript (case 3) ≡ plain "1 1 0\n2 2 0\n3 2 0\n4 2 0\n5 4 0\n6 4 0\n7 4 0\n8 5 0\n0 0 1 0 2530 3022\n1 0 2 135 1665 1927\n2 1 3 397 1927 2189\n9 8 0\n- - - -\n"
-unfolding checked every countOf indexOf filter over total decimalIn decimal sentFor replyFor apart clear clearOf fits first place sharesFit setupNumber tried pass alone turns plan selectiveRanged bodyLength numberAt recordAt eightAt beforeSetup emptied setUp targetRanged requestRanged unitFull newTarget requested reported asked boardFor nextPlan line answerLine entryLine entryLines valueWord ageWord reportLine obeyed obeyedAt goesOn nextPlace textFrom transcript
-case-p1 = refl
-
 -- with the third request for address 2 its start is 1927
-case-p1-variant : transcript (case 2) ≡ plain "1 1 0\n2 2 0\n3 2 0\n4 2 0\n5 4 0\n6 4 0\n7 4 0\n8 5 0\n0 0 1 0 2530 3022\n1 0 2 135 1665 1927\n2 1 2 1927 3457 3719\n9 8 0\n- - - -\n"
-unfolding checked every countOf indexOf filter over total decimalIn decimal sentFor replyFor apart clear clearOf fits first place sharesFit setupNumber tried pass alone turns plan selectiveRanged bodyLength numberAt recordAt eightAt beforeSetup emptied setUp targetRanged requestRanged unitFull newTarget requested reported asked boardFor nextPlan line answerLine entryLine entryLines valueWord ageWord reportLine obeyed obeyedAt goesOn nextPlace textFrom transcript
-case-p1-variant = refl
+case-p1 :
+    (transcript (case 3)
+    ≡ plain "1 1 0\n2 2 0\n3 2 0\n4 2 0\n5 4 0\n6 4 0\n7 4 0\n8 5 0\n0 0 1 0 2530 3022\n1 0 2 135 1665 1927\n2 1 3 397 1927 2189\n9 8 0\n- - - -\n")
+    × (transcript (case 2)
+    ≡ plain "1 1 0\n2 2 0\n3 2 0\n4 2 0\n5 4 0\n6 4 0\n7 4 0\n8 5 0\n0 0 1 0 2530 3022\n1 0 2 135 1665 1927\n2 1 2 1927 3457 3719\n9 8 0\n- - - -\n")
+unfolding checked every countOf indexOf filter over total decimalIn decimal sentFor replyFor apart clear clearOf fits first place sharesFit setupNumber
+    tried pass alone turns plan selectiveRanged bodyLength numberAt recordAt eightAt beforeSetup emptied setUp targetRanged requestRanged unitFull newTarget
+    requested reported asked boardFor nextPlan line answerLine entryLine entryLines valueWord ageWord reportLine obeyed obeyedAt goesOn nextPlace textFrom
+    transcript
+case-p1 = (refl, refl)

@@ -87,7 +87,12 @@ prints =
     ++ plain "15 8 0\n- - 4321 1\n16 9 4\n"
 
 runs : transcript every-kind ≡ prints
-unfolding checked every countOf indexOf filter over total decimalIn decimal signedDecimal bits xorBits shiftIn divide remainderOf syndrome sizeOf subsets xorOf matching flipped sentFor replyFor apart clear clearOf fits first place sharesFit setupNumber plans.tried plans.pass plans.alone plans.turns plans.plan headOf drawn selectiveRanged bodyLength messageLength numberAt recordAt eightAt state.beforeSetup state.emptied setUp targetRanged requestRanged unitFull newTarget without removed moved requested reported asked boardFor nextPlan expected valueIn startOf inWindow targetsHeard afterReply settled replied line answerLine replyLine entryLine entryLines valueWord ageWord reportLine obeyed obeyedAt goesOn nextPlace textFrom transcript
+unfolding checked every countOf indexOf filter over total decimalIn decimal signedDecimal bits xorBits shiftIn divide remainderOf syndrome sizeOf subsets
+    xorOf matching flipped sentFor replyFor apart clear clearOf fits first place sharesFit setupNumber plans.tried plans.pass plans.alone plans.turns
+    plans.plan headOf drawn selectiveRanged bodyLength messageLength numberAt recordAt eightAt state.beforeSetup state.emptied setUp targetRanged
+    requestRanged unitFull newTarget without removed moved requested reported asked boardFor nextPlan expected valueIn startOf inWindow targetsHeard
+    afterReply settled replied line answerLine replyLine entryLine entryLines valueWord ageWord reportLine obeyed obeyedAt goesOn nextPlace textFrom
+    transcript
 runs = refl
 
 -- the calls that it spells, the newest first
@@ -168,7 +173,8 @@ reads :
     ∷ lastSaid AC 1 (eventsBy to-the-end)
     ∷ [])
     ≡ said 1234 0 ∷ never ∷ never ∷ said 4321 1 ∷ never ∷ []
-unfolding bits xorBits shiftIn divide remainderOf syndrome sizeOf subsets xorOf filter matching flipped headOf drawn expected valueIn state.beforeSetup state.emptied sentFor replyFor apart clear clearOf fits withoutIt toldBy inForce lastSaid knownBy eventsBy
+unfolding bits xorBits shiftIn divide remainderOf syndrome sizeOf subsets xorOf filter matching flipped headOf drawn expected valueIn state.beforeSetup
+    state.emptied sentFor replyFor apart clear clearOf fits withoutIt toldBy inForce lastSaid knownBy eventsBy
 reads = refl
 
 -- what waits before the plan, the oldest first; what a removal, a refused removal, another setup and the plan leave of it

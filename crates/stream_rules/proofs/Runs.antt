@@ -171,7 +171,8 @@ late-same zero s r held = sym (append-nil held)
 late-same (suc k) s r held = go (isFull (length held)) (late-same k s (advanced s r))
   where
     go : (b : Bool) → ((h : List ℕ) → writtenLate k s (advanced s r) h ≡ h ++ written k s (advanced s r))
-        → pick b (held ++ writtenLate k s (advanced s r) (linesNow s r)) (writtenLate k s (advanced s r) (held ++ linesNow s r)) ≡ held ++ (linesNow s r ++ written k s (advanced s r))
+        → pick b (held ++ writtenLate k s (advanced s r) (linesNow s r))
+        (writtenLate k s (advanced s r) (held ++ linesNow s r)) ≡ held ++ (linesNow s r ++ written k s (advanced s r))
     go true later = ap (λ (t : List ℕ). held ++ t) (later (linesNow s r))
     go false later = later (held ++ linesNow s r) ∙ append-assoc held (linesNow s r) (written k s (advanced s r))
 

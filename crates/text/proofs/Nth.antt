@@ -67,7 +67,12 @@ module _ (line : List ℕ) where
   come-to k w c =
       record {
         is = c .nth;
-        text = rw (c .is) (first line (c .at) ∙ ap (λ (l : List (List ℕ)). getD l 0 []) (sym (c .rest)) ∙ getD-drop k (wordsOf line) 0 [] ∙ ap (λ (j : ℕ). getD (wordsOf line) j []) (omega arith));
+        text =
+            rw (c .is)
+            (first line (c .at)
+            ∙ ap (λ (l : List (List ℕ)). getD l 0 []) (sym (c .rest))
+            ∙ getD-drop k (wordsOf line) 0 []
+            ∙ ap (λ (j : ℕ). getD (wordsOf line) j []) (omega arith));
         order = rw (c .is) (word-from line (c .at));
         fits = rw (c .is) (word-to line (c .at));
       }

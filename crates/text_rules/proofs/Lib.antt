@@ -9,4 +9,4 @@ pub mod Parted
 pub mod HexMade
 pub mod HexRead
 pub mod Signs
-pub mod Run
+pub mod Pieces

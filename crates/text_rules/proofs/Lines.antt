@@ -119,25 +119,3 @@ module _ (s : List ℕ) (at : ℕ) where
   line-clear k h =
       let e : inLine (getD s (at + k) 0) ≡ true = run-inside inLine s at k (omega (arith, line-length)) in
       rw (line-at k h) (not-true (newline (getD s (at + k) 0)) (sym (in-line (getD s (at + k) 0)) ∙ e))
-
--- ---- a run over all lines
-
--- the lines that n steps visit, from the line at the place at on: each goes on behind the newline
-unfoldable pub visited : ℕ → List ℕ → ℕ → List (List ℕ)
-visited zero s at = []
-visited (suc n) s at = pick (ltb at (length s)) (lineAt s at ∷ visited n s (lineEnd s at + 1)) []
-
-visit-by : (n : ℕ) (s : List ℕ) (at : ℕ) (v : Bool) → ltb at (length s) ≡ v
-    → (at < length s → visited n s (lineEnd s at + 1) ≡ linesOf (drop (lineEnd s at + 1) s)) → visited (suc n) s at ≡ linesOf (drop at s)
-unfolding visited
-visit-by n s at true e ih = let h : at < length s = ltb-true at (length s) e in rw (e, ih h) (sym (lines-next s at h))
-visit-by n s at false e ih = rw e (sym (lines-end s at (ltb-false at (length s) e)))
-
-visits : (n : ℕ) (s : List ℕ) (at : ℕ) → length s < at + n → visited n s at ≡ linesOf (drop at s)
-unfolding visited
-visits zero s at h = sym (lines-end s at (omega arith))
-visits (suc n) s at h = visit-by n s at (ltb at (length s)) refl λ b. visits n s (lineEnd s at + 1) (omega (arith, line-end-after s at (omega arith)))
-
--- from the start on, as many steps as there are bytes, and one, visit exactly the lines
-pub all-lines : (s : List ℕ) → visited (length s + 1) s 0 ≡ linesOf s
-all-lines s = visits (length s + 1) s 0 (omega arith)

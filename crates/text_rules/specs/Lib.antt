@@ -5,4 +5,5 @@ pub mod Number
 pub mod Hex
 pub mod Signed
 pub mod Run
+pub mod Pieces
 pub mod Plain

@@ -18,8 +18,10 @@ pub enum Hex {
     Not,
 }
 
-// A line was taken: the place of the next one, and how many bytes of text stand in the lent buffer.
-pub struct Lined {
-    pub next: usize,
+// A piece of the input was taken up to the end of a line or of the piece: how many bytes of the line are held, the next place in the piece, and
+// whether the line ended.
+pub struct Gathered {
     pub size: usize,
+    pub next: usize,
+    pub ended: bool,
 }

@@ -1,60 +1,23 @@
--- `main` reads, has each line made and writes it; every step goes on, so it ends.
-use Prim.Native.Nat.{_-_}
-use mathlib.Core.Path.{_≡_, refl}
-use lib.ListN.{length}
-use Rattle.text_rules.proofs.Laid.{put-count}
-use Rattle.text_rules.proofs.Run.{goes-on}
+-- `main` reads piece after piece and has its lines answered, as long as there are turns.
+use Prim.Native.Nat.{ℕ, _≤_}
+use native.Mathlib.Omega.{arith}
+use mathlib.Core.Path.{_≡_, refl, sym}
+use mathlib.Core.List.{List}
+use lib.ListN.{length, take}
+use lib.Seq.{length-take-le}
+use Rattle.io.specs.Counts.{Counts}
 use borrow.Author.Needs.{needs}
 use Rattle.feet.proofs.main.Statement.{statement}
 use Rattle.feet.proofs.main.Tie as tie
 
 abbrev Inv-loop : tie.InvT-loop
-Inv-loop got s line₀ at₀ line at = length line ≡ 32
+Inv-loop piece₀ line₀ held₀ turns₀ got₀ piece line held turns got = (held ≤ length line) × (length line ≡ 1001) × (length piece ≡ 65536) × Counts got piece
 
 abbrev μ-loop : tie.MeasureT-loop
-μ-loop got s line₀ at₀ line at = length s - at
+μ-loop piece₀ line₀ held₀ turns₀ got₀ piece line held turns got = turns
 
-large-buffer-requires : tie.Need-large-buffer-requires Inv-loop μ-loop
-large-buffer-requires c κs = search needs
-
-slice-aggregate-read-full : tie.Need-slice-aggregate-read-full Inv-loop μ-loop
-slice-aggregate-read-full c = search needs
-
-read-full-requires : tie.Need-read-full-requires Inv-loop μ-loop
-read-full-requires c κs = search needs
-
-array-share-prefix-input : tie.Need-array-share-prefix-input Inv-loop μ-loop
-array-share-prefix-input c = search needs
-
-slice-aggregate-s : tie.Need-slice-aggregate-s Inv-loop μ-loop
-slice-aggregate-s c = search needs
-
-loop-holds : tie.Need-loop-holds Inv-loop μ-loop
-loop-holds c = refl
-
-slice-aggregate-feet-line : tie.Need-slice-aggregate-feet-line Inv-loop μ-loop
-slice-aggregate-feet-line c = search needs
-
-feet-line-requires : tie.Need-feet-line-requires Inv-loop μ-loop
-feet-line-requires c κs = search needs
-
-array-share-prefix-line : tie.Need-array-share-prefix-line Inv-loop μ-loop
-array-share-prefix-line c = search needs
-
-slice-aggregate-write-all : tie.Need-slice-aggregate-write-all Inv-loop μ-loop
-slice-aggregate-write-all c = put-count (c .before .before .feet-line .ensures .text-put)
-
-write-all-requires : tie.Need-write-all-requires Inv-loop μ-loop
-write-all-requires c κs = search needs
-
-loop-less : tie.Need-loop-less Inv-loop μ-loop
-loop-less c = goes-on _ (c .before .before .before .feet-line .ensures) (c .before .before .before .before .before .loop-test .taken)
-
-loop-again : tie.Need-loop-again Inv-loop μ-loop
-loop-again c = search needs
-
-returns : tie.Need-returns Inv-loop μ-loop
-returns c = search needs
+taken : (n : ℕ) (l : List ℕ) → n ≤ length l → n ≡ length (take n l)
+taken n l h = sym (length-take-le n l h)
 
 pub main-spec : {M : Type 1} → statement M
 main-spec =
@@ -62,17 +25,24 @@ main-spec =
     (tie.spec
     Inv-loop
     μ-loop
-    large-buffer-requires
-    slice-aggregate-read-full
-    read-full-requires
-    array-share-prefix-input
-    slice-aggregate-s
-    loop-holds
-    slice-aggregate-feet-line
-    feet-line-requires
-    array-share-prefix-line
-    slice-aggregate-write-all
-    write-all-requires
-    loop-less
-    loop-again
-    returns)
+    (λ c κs. search needs)
+    (λ c. search needs)
+    (λ c κs. search needs)
+    (λ c. search needs)
+    (λ c κs. search needs)
+    (λ c. (omega arith, refl, search needs, search needs))
+    (λ c. search needs)
+    (λ c. search needs)
+    (λ c. search needs)
+    (λ c κs. search needs)
+    (λ c. search needs)
+    (λ c κs. search needs)
+    (λ c. search needs)
+    (λ c κs. search needs)
+    (λ c. omega arith)
+    (λ c. omega arith)
+    (λ c. (search needs, search needs, search needs, search needs))
+    (λ c. search needs)
+    (λ c. search taken)
+    (λ c κs. search needs)
+    (λ c. search needs))

@@ -37,7 +37,7 @@ bit-requires : tie.Need-bit-requires
 bit-requires c κs = search needs
 
 returns-3 : tie.Need-returns-3
-returns-3 c = altitude-told _ _ (says-metric _ (in-range (c .before .before)) (not-zero (c .before .before)) (sym (c .before .bit .ensures .0) ∙ c .if3 .taken))
+returns-3 c = altitude-told _ _ (says-metric _ (in-range search) (not-zero search) (sym (c .before .bit .ensures .0) ∙ c .if3 .taken))
 
 bit-requires-2 : tie.Need-bit-requires-2
 bit-requires-2 c κs = search needs
@@ -54,21 +54,23 @@ signed-requires c κs = search needs
 returns-4 : tie.Need-returns-4
 unfolding feetBy25
 returns-4 c =
-    let t = c .before .before in
-    let e = t .before .before in
-    let ac = start (e .before .before) .args .ac in
+    let s : tie.Start = search in
+    let ac = s .args .ac in
+    let q : tie.Then4 = search in
     let n = c .before .eleven-bits in
     altitude-told ac _
-    (ap Feet (minus-kept (25 * n .result) 1000 (omega arith) (omega arith) (c .signed .result) (c .signed .ensures) ∙ ap (λ (k : ℕ). subℕ (25 * k) 1000) (n .ensures .0))
-    ∙ says-by25 ac (in-range (e .before .before)) (not-zero (e .before .before)) (not-metric e) (sym (t .before .bit2 .ensures .0) ∙ t .if4 .taken))
+    (ap Feet
+    (minus-kept (25 * n .result) 1000 (omega arith) (omega arith) (c .signed .result) (c .signed .ensures) ∙ ap (λ (k : ℕ). subℕ (25 * k) 1000) (n .ensures .0))
+    ∙ says-by25 ac (in-range search) (not-zero search) (not-metric search) (sym (q .before .bit2 .ensures .0) ∙ q .if4 .taken))
 
 pattern-requires : tie.Need-pattern-requires
 pattern-requires c κs = search needs
 
 returns-5 : tie.Need-returns-5
 returns-5 c =
-    let e = c .before .before .before .before in
-    altitude-told _ _ (says-illegal _ (in-range (e .before .before)) (not-zero (e .before .before)) (not-metric e) (not-25 (c .before .before)) (sym (c .before .pattern .ensures .0) ∙ c .if5 .taken))
+    altitude-told _ _
+    (says-illegal _ (in-range search) (not-zero search) (not-metric search) (not-25 search)
+    (sym (c .before .pattern .ensures .0) ∙ c .if5 .taken))
 
 five-hundreds-requires : tie.Need-five-hundreds-requires
 five-hundreds-requires c κs = search needs
@@ -91,16 +93,21 @@ signed-requires-2 c κs = search needs
 returns-6 : tie.Need-returns-6
 unfolding feetBy100
 returns-6 c =
-    let p = c .before .before .before .before in
-    let e = p .before .before .before in
-    let ac = start (e .before .before) .args .ac in
-    let n = c .before .before .five-hundreds in
+    let s : tie.Start = search in
+    let ac = s .args .ac in
+    let p : tie.After-pattern = search in
+    let legal : tie.Else5 = search in
+    let m : tie.After-five-hundreds = search in
+    let n = m .five-hundreds in
     let h = c .before .hundreds-in in
-    let up : 500 * n .result + 100 * h .result ≡ 500 * fiveHundreds ac + 100 * hundreds (fiveHundreds ac) (group ac) = simp (h .ensures .0, n .ensures .0, p .pattern .ensures .0) in
+    let up : 500 * n .result + 100 * h .result ≡ 500 * fiveHundreds ac + 100 * hundreds (fiveHundreds ac) (group ac) =
+    simp (h .ensures .0, n .ensures .0, p .pattern .ensures .0) in
     altitude-told ac _
-    (ap Feet (minus-kept (500 * n .result + 100 * h .result) 1300 (omega arith) (omega arith) (c .signed2 .result) (c .signed2 .ensures) ∙ ap (λ (k : ℕ). subℕ k 1300) up)
-    ∙ says-by100 ac (in-range (e .before .before)) (not-zero (e .before .before)) (not-metric e) (not-25 (p .before))
-    (λ z. c .before .before .before .if5 .left (p .pattern .ensures .0 ∙ z)))
+    (ap Feet
+    (minus-kept (500 * n .result + 100 * h .result) 1300 (omega arith) (omega arith) (c .signed2 .result) (c .signed2 .ensures)
+    ∙ ap (λ (k : ℕ). subℕ k 1300) up)
+    ∙ says-by100 ac (in-range search) (not-zero search) (not-metric search) (not-25 search)
+    (λ z. legal .if5 .left (p .pattern .ensures .0 ∙ z)))
 
 pub read-spec : {M : Type 1} → statement M
 read-spec =

@@ -13,7 +13,8 @@ use Rattle.console_plain.proofs.building.put_built.Statement.{statement
 use Rattle.console_plain.proofs.building.put_built.Tie as tie
 
 -- the answer's case
-told : (frame : List ℕ) {b d : Built} {at q : ℕ} {l m : List ℕ} → b ≡ d → Put (builtText (builtSaid d frame)) at l m q → Put (builtText (builtSaid b frame)) at l m q
+told : (frame : List ℕ) {b d : Built} {at q : ℕ} {l m : List ℕ} → b ≡ d → Put (builtText (builtSaid d frame)) at l m q
+    → Put (builtText (builtSaid b frame)) at l m q
 told frame e p = rw e p
 
 pub put-built-spec : {M : Type 1} → statement M

@@ -39,8 +39,13 @@ loop-less c = search needs
 
 loop-again : tie.Need-loop-again Inv-loop μ-loop
 loop-again c = let l = c .before .before in
-    let s = l .before in
-    (search needs, copied-more (λ (e : Entry). e .ask .request .ma) (s .args .t1) _ (l .loop .i) (l .loop .r) _ (omega (arith, l .loop .inv .2)) (omega (arith, l .loop .inv .3)) (l .loop .inv .1), l .loop .inv .2, l .loop .inv .3)
+    let s = l .before in (
+      search needs,
+      copied-more (λ (e : Entry). e .ask .request .ma) (s .args .t1) _ (l .loop .i) (l .loop .r) _ (omega (arith, l .loop .inv .2))
+          (omega (arith, l .loop .inv .3)) (l .loop .inv .1),
+      l .loop .inv .2,
+      l .loop .inv .3,
+    )
 
 returns : tie.Need-returns Inv-loop μ-loop
 returns c = let l = c .before in

@@ -37,7 +37,13 @@ loop-less : tie.Need-loop-less Inv-loop μ-loop
 loop-less c = omega arith
 
 loop-again : tie.Need-loop-again Inv-loop μ-loop
-loop-again c = let l = c .before .loop in (omega arith, step-lt (l .r) (l .inv .1), quotient-grows _ _ (l .i) (l .inv .2) (omega arith), quotient-turn (l .q) (l .r) (l .i) (omega arith) (l .inv .1) ∙ l .inv .3)
+loop-again c =
+    let l = c .before .loop in (
+      omega arith,
+      step-lt (l .r) (l .inv .1),
+      quotient-grows _ _ (l .i) (l .inv .2) (omega arith),
+      quotient-turn (l .q) (l .r) (l .i) (omega arith) (l .inv .1) ∙ l .inv .3,
+    )
 
 returns : tie.Need-returns Inv-loop μ-loop
 unfolding quotientBits

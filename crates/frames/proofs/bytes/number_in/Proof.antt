@@ -28,7 +28,9 @@ cast-r : tie.Need-cast-r Inv-loop μ-loop
 cast-r c = omega (arith, c .shared-slice-known .given (c .before .before .loop .i))
 
 add-r : tie.Need-add-r Inv-loop μ-loop
-add-r c = omega (arith, c .shared-slice-known .given (c .before .before .loop .i), room _ _ (omega arith) (c .before .before .loop .inv .1))
+add-r c =
+    let at-loop : tie.At-loop Inv-loop μ-loop = search in
+    omega (arith, c .shared-slice-known .given (at-loop .loop .i), room _ _ (omega arith) (at-loop .loop .inv .1))
 
 add-i : tie.Need-add-i Inv-loop μ-loop
 add-i c = omega arith
@@ -37,10 +39,16 @@ loop-less : tie.Need-loop-less Inv-loop μ-loop
 loop-less c = omega arith
 
 loop-again : tie.Need-loop-again Inv-loop μ-loop
-loop-again c = let l = c .before .before .loop in (omega arith, byte-on _ _ (l .i) (l .inv .1) (omega (arith, c .shared-slice-known .given (l .i))), turn _ (l .i) (l .r) (omega arith) ∙ l .inv .2)
+loop-again c =
+    let l = c .before .before .loop in
+    (omega arith, byte-on _ _ (l .i) (l .inv .1) (omega (arith, c .shared-slice-known .given (l .i))), turn _ (l .i) (l .r) (omega arith) ∙ l .inv .2)
 
 returns : tie.Need-returns Inv-loop μ-loop
-returns c = let l = c .before .loop in let s = c .before .before .args .s .now in let d : drop (l .i) s ≡ [] = drop-of-length-le s {i = l .i} (omega arith) in let e : l .i ≡ length s = omega arith in (rw d at (l .inv .2), rw (← e) (l .inv .1))
+returns c =
+    let l = c .before .loop in
+    let s = c .before .before .args .s .now in
+    let d : drop (l .i) s ≡ [] = drop-of-length-le s {i = l .i} (omega arith) in
+    let e : l .i ≡ length s = omega arith in (rw d at (l .inv .2), rw (← e) (l .inv .1))
 
 pub number-in-spec : {M : Type 1} → statement M
 number-in-spec =

@@ -32,7 +32,10 @@ of-si-requires c κs = search needs
 
 returns-3 : tie.Need-returns-3
 unfolding codeFor codeTold
-returns-3 c = simp (le-leb _ _ (c .before .before .before .if1 .left), ne-eqb _ _ (c .before .before .if2 .left), sym (c .before .of-si .ensures) ∙ not-true _ (c .if3 .taken))
+returns-3 c =
+    let else1 : tie.Else1 = search in
+    let else2 : tie.Else2 = search in
+    simp (le-leb _ _ (else1 .if1 .left), ne-eqb _ _ (else2 .if2 .left), sym (c .before .of-si .ensures) ∙ not-true _ (c .if3 .taken))
 
 sub-si : tie.Need-sub-si
 sub-si c = search needs
@@ -45,14 +48,32 @@ add-si c = omega (arith, at-most c)
 
 returns-4 : tie.Need-returns-4
 unfolding codeFor codeTold
-returns-4 c = simp (le-leb _ _ (c .before .before .before .before .if1 .left), ne-eqb _ _ (c .before .before .before .if2 .left), sym (c .before .before .of-si .ensures) ∙ not-false _ (c .before .if3 .left), eq-eqb _ _ (c .if4 .taken))
+returns-4 c =
+    let else1 : tie.Else1 = search in
+    let else2 : tie.Else2 = search in
+    let at-of-si : tie.After-of-si = search in
+    simp (
+      le-leb _ _ (else1 .if1 .left),
+      ne-eqb _ _ (else2 .if2 .left),
+      sym (at-of-si .of-si .ensures) ∙ not-false _ (c .before .if3 .left),
+      eq-eqb _ _ (c .if4 .taken),
+    )
 
 cast-t9 : tie.Need-cast-t9
 cast-t9 c = omega (arith, at-most (c .before))
 
 returns-5 : tie.Need-returns-5
 unfolding codeFor codeTold
-returns-5 c = simp (le-leb _ _ (c .before .before .before .before .if1 .left), ne-eqb _ _ (c .before .before .before .if2 .left), sym (c .before .before .of-si .ensures) ∙ not-false _ (c .before .if3 .left), ne-eqb _ _ (c .if4 .left))
+returns-5 c =
+    let else1 : tie.Else1 = search in
+    let else2 : tie.Else2 = search in
+    let at-of-si : tie.After-of-si = search in
+    simp (
+      le-leb _ _ (else1 .if1 .left),
+      ne-eqb _ _ (else2 .if2 .left),
+      sym (at-of-si .of-si .ensures) ∙ not-false _ (c .before .if3 .left),
+      ne-eqb _ _ (c .if4 .left),
+    )
 
 pub code-for-spec : {M : Type 1} → statement M
 code-for-spec =

@@ -23,19 +23,68 @@ of-si-requires c κs = search needs
 
 returns-3 : tie.Need-returns-3
 unfolding whose
-returns-3 c = simp (← c .before .before .before .before .code-overlay .ensures, ne-eqb _ _ (c .before .before .before .if1 .left), eq-eqb _ _ (c .before .before .if2 .left), sym (c .before .of-si .ensures) ∙ not-true _ (c .if3 .taken))
+returns-3 c =
+    let at-code-overlay : tie.After-code-overlay = search in
+    let else1 : tie.Else1 = search in
+    let else2 : tie.Else2 = search in
+    simp (
+      ← at-code-overlay .code-overlay .ensures,
+      ne-eqb _ _ (else1 .if1 .left),
+      eq-eqb _ _ (else2 .if2 .left),
+      sym (c .before .of-si .ensures) ∙ not-true _ (c .if3 .taken),
+    )
 
 returns-4 : tie.Need-returns-4
 unfolding whose
-returns-4 c = simp (zero-add, ← c .before .before .before .before .before .code-overlay .ensures, ne-eqb _ _ (c .before .before .before .before .if1 .left), eq-eqb _ _ (c .before .before .before .if2 .left), sym (c .before .before .of-si .ensures) ∙ not-false _ (c .before .if3 .left), ne-eqb _ _ (c .if4 .taken))
+returns-4 c =
+    let at-code-overlay : tie.After-code-overlay = search in
+    let else1 : tie.Else1 = search in
+    let else2 : tie.Else2 = search in
+    let at-of-si : tie.After-of-si = search in
+    simp (
+      zero-add,
+      ← at-code-overlay .code-overlay .ensures,
+      ne-eqb _ _ (else1 .if1 .left),
+      eq-eqb _ _ (else2 .if2 .left),
+      sym (at-of-si .of-si .ensures) ∙ not-false _ (c .before .if3 .left),
+      ne-eqb _ _ (c .if4 .taken),
+    )
 
 returns-5 : tie.Need-returns-5
 unfolding whose
-returns-5 c = simp (zero-add, ← c .before .before .before .before .before .before .code-overlay .ensures, ne-eqb _ _ (c .before .before .before .before .before .if1 .left), eq-eqb _ _ (c .before .before .before .before .if2 .left), sym (c .before .before .before .of-si .ensures) ∙ not-false _ (c .before .before .if3 .left), eq-eqb _ _ (c .before .if4 .left), eq-eqb _ _ (c .if5 .taken))
+returns-5 c =
+    let at-code-overlay : tie.After-code-overlay = search in
+    let else1 : tie.Else1 = search in
+    let else2 : tie.Else2 = search in
+    let at-of-si : tie.After-of-si = search in
+    let else3 : tie.Else3 = search in
+    simp (
+      zero-add,
+      ← at-code-overlay .code-overlay .ensures,
+      ne-eqb _ _ (else1 .if1 .left),
+      eq-eqb _ _ (else2 .if2 .left),
+      sym (at-of-si .of-si .ensures) ∙ not-false _ (else3 .if3 .left),
+      eq-eqb _ _ (c .before .if4 .left),
+      eq-eqb _ _ (c .if5 .taken),
+    )
 
 returns-6 : tie.Need-returns-6
 unfolding whose
-returns-6 c = simp (zero-add, ← c .before .before .before .before .before .before .code-overlay .ensures, ne-eqb _ _ (c .before .before .before .before .before .if1 .left), eq-eqb _ _ (c .before .before .before .before .if2 .left), sym (c .before .before .before .of-si .ensures) ∙ not-false _ (c .before .before .if3 .left), eq-eqb _ _ (c .before .if4 .left), ne-eqb _ _ (c .if5 .left))
+returns-6 c =
+    let at-code-overlay : tie.After-code-overlay = search in
+    let else1 : tie.Else1 = search in
+    let else2 : tie.Else2 = search in
+    let at-of-si : tie.After-of-si = search in
+    let else3 : tie.Else3 = search in
+    simp (
+      zero-add,
+      ← at-code-overlay .code-overlay .ensures,
+      ne-eqb _ _ (else1 .if1 .left),
+      eq-eqb _ _ (else2 .if2 .left),
+      sym (at-of-si .of-si .ensures) ∙ not-false _ (else3 .if3 .left),
+      eq-eqb _ _ (c .before .if4 .left),
+      ne-eqb _ _ (c .if5 .left),
+    )
 
 pub whose-code-spec : {M : Type 1} → statement M
 whose-code-spec =

@@ -29,14 +29,24 @@ add-t6 c = omega (arith, c .short-reply .ensures .1)
 
 returns-3 : tie.Need-returns-3
 unfolding drawn drawnTold
-returns-3 c = simp (sym (c .before .before .before .before .surveillance .ensures) ∙ not-false _ (c .before .before .before .if1 .left), le-leb _ _ (c .before .before .if2 .left), le-leb _ _ (c .before .if3 .taken)) (ap (λ (n : ℕ). drawsSaid (Format (n + 16))) (c .short-reply .ensures .0))
+returns-3 c =
+    let at-surveillance : tie.After-surveillance = search in
+    let else1 : tie.Else1 = search in
+    let else2 : tie.Else2 = search in
+    simp (sym (at-surveillance .surveillance .ensures) ∙ not-false _ (else1 .if1 .left), le-leb _ _ (else2 .if2 .left), le-leb _ _ (c .before .if3 .taken))
+    (ap (λ (n : ℕ). drawsSaid (Format (n + 16))) (c .short-reply .ensures .0))
 
 short-reply-requires-2 : tie.Need-short-reply-requires-2
 short-reply-requires-2 c κs = search needs
 
 returns-4 : tie.Need-returns-4
 unfolding drawn drawnTold
-returns-4 c = simp (sym (c .before .before .before .before .surveillance .ensures) ∙ not-false _ (c .before .before .before .if1 .left), le-leb _ _ (c .before .before .if2 .left), lt-leb _ _ (c .before .if3 .left)) (ap (λ (n : ℕ). drawsSaid (Format n)) (c .short-reply2 .ensures .0))
+returns-4 c =
+    let at-surveillance : tie.After-surveillance = search in
+    let else1 : tie.Else1 = search in
+    let else2 : tie.Else2 = search in
+    simp (sym (at-surveillance .surveillance .ensures) ∙ not-false _ (else1 .if1 .left), le-leb _ _ (else2 .if2 .left), lt-leb _ _ (c .before .if3 .left))
+    (ap (λ (n : ℕ). drawsSaid (Format n)) (c .short-reply2 .ensures .0))
 
 pub drawn-spec : {M : Type 1} → statement M
 drawn-spec =

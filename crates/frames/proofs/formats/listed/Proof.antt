@@ -18,8 +18,9 @@ surveillance-requires c κs = search needs
 
 returns-3 : tie.Need-returns-3
 returns-3 c =
-    simp (← c .before .before .before .length-of .ensures, eq-eqb _ _ (c .before .before .if1 .left), ne-eqb _ _ (c .before .if2 .left))
-    (c .surveillance .ensures)
+    let at-length-of : tie.After-length-of = search in
+    let else1 : tie.Else1 = search in
+    simp (← at-length-of .length-of .ensures, eq-eqb _ _ (else1 .if1 .left), ne-eqb _ _ (c .before .if2 .left)) (c .surveillance .ensures)
 
 pub listed-spec : {M : Type 1} → statement M
 listed-spec =

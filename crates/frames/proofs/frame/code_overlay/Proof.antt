@@ -19,13 +19,27 @@ enum-told-2 : tie.Need-enum-told-2
 enum-told-2 c = search needs
 
 returns : tie.Need-returns
-returns c = the-value _ _ _ (c .before .v .given .1) (code-is _ (c .before .before .before .before .args .cl) (c .before .before .before .before .args .ic) (omega arith) (omega arith) (c .before .before .before .code-overlay .ensures))
+returns c =
+    let start : tie.Start = search in
+    let at-code-overlay : tie.After-code-overlay = search in
+    the-value _ _ _ (c .before .v .given .1)
+    (code-is _ (start .args .cl) (start .args .ic) (omega arith) (omega arith) (at-code-overlay .code-overlay .ensures))
 
 returns-2 : tie.Need-returns-2
-returns-2 c = absurd (no-length _ _ (c .enum-told .given .1) (code-is _ (c .before .before .before .args .cl) (c .before .before .before .args .ic) (omega arith) (omega arith) (c .before .before .code-overlay .ensures)))
+returns-2 c =
+    let start : tie.Start = search in
+    let at-code-overlay : tie.After-code-overlay = search in
+    absurd
+    (no-length _ _ (c .enum-told .given .1)
+    (code-is _ (start .args .cl) (start .args .ic) (omega arith) (omega arith) (at-code-overlay .code-overlay .ensures)))
 
 returns-3 : tie.Need-returns-3
-returns-3 c = absurd (no-range _ _ (c .enum-told2 .given .1) (code-is _ (c .before .before .before .args .cl) (c .before .before .before .args .ic) (omega arith) (omega arith) (c .before .before .code-overlay .ensures)))
+returns-3 c =
+    let start : tie.Start = search in
+    let at-code-overlay : tie.After-code-overlay = search in
+    absurd
+    (no-range _ _ (c .enum-told2 .given .1)
+    (code-is _ (start .args .cl) (start .args .ic) (omega arith) (omega arith) (at-code-overlay .code-overlay .ensures)))
 
 pub code-overlay-spec : {M : Type 1} → statement M
 code-overlay-spec =

@@ -12,16 +12,19 @@ use Rattle.frames.proofs.frame.fill.Statement.{statement}
 use Rattle.frames.proofs.frame.fill.Tie as tie
 
 put-requires : tie.Need-put-requires
-put-requires c κs = (omega arith, omega (arith, at-least-seven (length (c .before .before .args .out .now)) (c .before .before .pre)))
+put-requires c κs =
+    let start : tie.Start = search in
+    (omega arith, omega (arith, at-least-seven (length (start .args .out .now)) (start .pre)))
 
 same-length : tie.Need-same-length
 same-length c = search needs
 
 returns : tie.Need-returns
 returns c =
+    let at-put : tie.After-put = search in
     let s = c .before .before .before .before .before .before in
     let a = s .args in
-    let e = c .before .before .before .put .ensures in
+    let e = at-put .put .ensures in
     e ∙ fill-short (a .out .now) (a .head) (a .mid) (s .pre) (λ q. c .if1 .taken (ap length e ∙ length-sets (a .out .now) 0 (bytesOf 4 (a .head)) ∙ q))
 
 put-requires-2 : tie.Need-put-requires-2
@@ -32,12 +35,15 @@ same-length-2 c = search needs
 
 returns-2 : tie.Need-returns-2
 returns-2 c =
-    let a = c .before .before .before .before .before .before .before .before .before .before .args in
-    let e = c .before .before .before .before .before .before .before .put .ensures in
-    c .before .before .put2 .ensures
+    let start : tie.Start = search in
+    let at-put : tie.After-put = search in
+    let at-put2 : tie.After-put2 = search in
+    let else1 : tie.Else1 = search in
+    let a = start .args in
+    let e = at-put .put .ensures in
+    at-put2 .put2 .ensures
     ∙ ap (λ (l : List ℕ). sets l 4 (bytesOf 7 (a .mid))) e
-    ∙ fill-long (a .out .now) (a .head) (a .mid)
-    (sym (length-sets (a .out .now) 0 (bytesOf 4 (a .head))) ∙ sym (ap length e) ∙ c .before .before .before .before .if1 .left)
+    ∙ fill-long (a .out .now) (a .head) (a .mid) (sym (length-sets (a .out .now) 0 (bytesOf 4 (a .head))) ∙ sym (ap length e) ∙ else1 .if1 .left)
 
 pub fill-spec : {M : Type 1} → statement M
 fill-spec =

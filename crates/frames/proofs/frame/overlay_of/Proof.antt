@@ -18,13 +18,22 @@ enum-told-2 : tie.Need-enum-told-2
 enum-told-2 c = search needs
 
 returns : tie.Need-returns
-returns c = the-value _ _ _ (c .before .v .given .1) (uplink-is _ (c .before .before .before .before .args .address) (c .before .before .before .before .pre) (c .before .before .before .uplink-overlay .ensures))
+returns c =
+    let start : tie.Start = search in
+    let at-uplink-overlay : tie.After-uplink-overlay = search in
+    the-value _ _ _ (c .before .v .given .1) (uplink-is _ (start .args .address) (start .pre) (at-uplink-overlay .uplink-overlay .ensures))
 
 returns-2 : tie.Need-returns-2
-returns-2 c = absurd (no-length _ _ (c .enum-told .given .1) (uplink-is _ (c .before .before .before .args .address) (c .before .before .before .pre) (c .before .before .uplink-overlay .ensures)))
+returns-2 c =
+    let start : tie.Start = search in
+    let at-uplink-overlay : tie.After-uplink-overlay = search in
+    absurd (no-length _ _ (c .enum-told .given .1) (uplink-is _ (start .args .address) (start .pre) (at-uplink-overlay .uplink-overlay .ensures)))
 
 returns-3 : tie.Need-returns-3
-returns-3 c = absurd (no-range _ _ (c .enum-told2 .given .1) (uplink-is _ (c .before .before .before .args .address) (c .before .before .before .pre) (c .before .before .uplink-overlay .ensures)))
+returns-3 c =
+    let start : tie.Start = search in
+    let at-uplink-overlay : tie.After-uplink-overlay = search in
+    absurd (no-range _ _ (c .enum-told2 .given .1) (uplink-is _ (start .args .address) (start .pre) (at-uplink-overlay .uplink-overlay .ensures)))
 
 pub overlay-of-spec : {M : Type 1} → statement M
 overlay-of-spec =

@@ -16,26 +16,41 @@ sub-at : tie.Need-sub-at
 sub-at c = omega (arith, at-least-seven (length (c .before .args .out .now)) (c .before .pre))
 
 put-requires : tie.Need-put-requires
-put-requires c κs = (omega arith, omega (arith, at-least-seven (length (c .before .before .args .out .now)) (c .before .before .pre)))
+put-requires c κs =
+    let start : tie.Start = search in
+    (omega arith, omega (arith, at-least-seven (length (start .args .out .now)) (start .pre)))
 
 remainder-of-requires : tie.Need-remainder-of-requires
 remainder-of-requires c κs =
-    let s = c .before .before .before .before .before .before .args .out .now in
-    ap sevenOrFourteen (ap length (c .before .before .before .put .ensures) ∙ length-sets s (length s - 3) (bytesOf 3 0))
-    ∙ c .before .before .before .before .before .before .pre
+    let start : tie.Start = search in
+    let at-put : tie.After-put = search in
+    let s = start .args .out .now in ap sevenOrFourteen (ap length (at-put .put .ensures) ∙ length-sets s (length s - 3) (bytesOf 3 0)) ∙ start .pre
 
 cast-put : tie.Need-cast-put
 cast-put c =
-    omega (arith, xor-lt 32 (c .remainder-of .result) (c .before .before .before .before .before .before .before .args .overlay) (omega arith) (omega arith))
+    let start : tie.Start = search in
+    omega (arith, xor-lt 32 (c .remainder-of .result) (start .args .overlay) (omega arith) (omega arith))
 
 put-requires-2 : tie.Need-put-requires-2
-put-requires-2 c κs = (omega arith, simp (c .before .before .before .before .before .put .ensures, length-sets) (omega (arith, at-least-seven (length (c .before .before .before .before .before .before .before .before .args .out .now)) (c .before .before .before .before .before .before .before .before .pre))))
+put-requires-2 c κs =
+    let at-put : tie.After-put = search in
+    let start : tie.Start = search in (
+      omega arith,
+      simp (at-put .put .ensures, length-sets) (omega (arith, at-least-seven (length (start .args .out .now)) (start .pre))),
+    )
 
 same-length : tie.Need-same-length
 same-length c = search needs
 
 returns : tie.Need-returns
-returns c = seal-law (c .before .before .before .before .before .before .before .before .before .before .before .args .out .now) _ _ (c .before .before .before .before .remainder-of .result) (c .before .before .before .before .before .before .before .before .before .before .before .args .overlay) (at-least-seven (length (c .before .before .before .before .before .before .before .before .before .before .before .args .out .now)) (c .before .before .before .before .before .before .before .before .before .before .before .pre)) (c .before .before .before .before .before .before .before .before .put .ensures) (c .before .before .before .before .remainder-of .ensures .0) (c .before .before .put2 .ensures)
+returns c =
+    let start : tie.Start = search in
+    let at-remainder-of : tie.After-remainder-of = search in
+    let at-put : tie.After-put = search in
+    let at-put2 : tie.After-put2 = search in
+    seal-law (start .args .out .now) _ _ (at-remainder-of .remainder-of .result) (start .args .overlay)
+    (at-least-seven (length (start .args .out .now)) (start .pre)) (at-put .put .ensures) (at-remainder-of .remainder-of .ensures .0)
+    (at-put2 .put2 .ensures)
 
 pub seal-spec : {M : Type 1} → statement M
 seal-spec =

@@ -11,19 +11,19 @@ fill-requires c κs = search needs
 
 seal-requires : tie.Need-seal-requires
 seal-requires c κs =
-    let a = c .before .before .before .before .before .before .args in
-    ap sevenOrFourteen
-    (filled-length (a .out .now) (a .head) (a .mid) _ (c .before .before .before .before .before .before .pre) (c .before .before .before .fill .ensures))
-    ∙ c .before .before .before .before .before .before .pre
+    let start : tie.Start = search in
+    let at-fill : tie.After-fill = search in
+    let a = start .args in ap sevenOrFourteen (filled-length (a .out .now) (a .head) (a .mid) _ (start .pre) (at-fill .fill .ensures)) ∙ start .pre
 
 same-length : tie.Need-same-length
 same-length c = search needs
 
 returns : tie.Need-returns
 returns c =
-    let a = c .before .before .before .before .before .before .before .before .before .args in
-    write-law (a .out .now) (a .head) (a .mid) _ (c .before .before .before .before .before .before .before .before .before .pre)
-    (c .before .before .before .before .before .before .fill .ensures) _ (a .overlay) (c .before .before .seal .ensures)
+    let start : tie.Start = search in
+    let at-fill : tie.After-fill = search in
+    let at-seal : tie.After-seal = search in
+    let a = start .args in write-law (a .out .now) (a .head) (a .mid) _ (start .pre) (at-fill .fill .ensures) _ (a .overlay) (at-seal .seal .ensures)
 
 pub write-spec : {M : Type 1} → statement M
 write-spec = tie.close (tie.spec fill-requires seal-requires same-length returns)

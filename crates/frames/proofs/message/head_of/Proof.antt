@@ -23,8 +23,9 @@ number-in-requires c κs = search needs
 
 cast-result : tie.Need-cast-result
 cast-result c =
-    let m = c .before .before .before .args .msg .now in
-    let l : length (take 4 m) ≡ 4 = length-take-le 4 m (omega (arith, at-least-seven (length m) (c .before .before .before .pre))) in
+    let start : tie.Start = search in
+    let m = start .args .msg .now in
+    let l : length (take 4 m) ≡ 4 = length-take-le 4 m (omega (arith, at-least-seven (length m) (start .pre))) in
     omega (arith, rw l at (c .number-in .ensures .1))
 
 returns : tie.Need-returns

@@ -19,13 +19,23 @@ enum-told-2 : tie.Need-enum-told-2
 enum-told-2 c = search needs
 
 returns : tie.Need-returns
-returns c = let e = the-value _ _ _ (c .before .r .given .1) (remainder-is _ (c .before .before .before .before .before .args .msg .now) (c .before .before .before .before .before .pre) (c .before .before .before .remainder .ensures)) in (e, omega (arith, e, remainder-lt (c .before .before .before .before .before .args .msg .now)))
+returns c =
+    let start : tie.Start = search in
+    let at-remainder : tie.After-remainder = search in
+    let e = the-value _ _ _ (c .before .r .given .1) (remainder-is _ (start .args .msg .now) (start .pre) (at-remainder .remainder .ensures)) in
+    (e, omega (arith, e, remainder-lt (start .args .msg .now)))
 
 returns-2 : tie.Need-returns-2
-returns-2 c = absurd (no-length _ _ (c .enum-told .given .1) (remainder-is _ (c .before .before .before .before .args .msg .now) (c .before .before .before .before .pre) (c .before .before .remainder .ensures)))
+returns-2 c =
+    let start : tie.Start = search in
+    let at-remainder : tie.After-remainder = search in
+    absurd (no-length _ _ (c .enum-told .given .1) (remainder-is _ (start .args .msg .now) (start .pre) (at-remainder .remainder .ensures)))
 
 returns-3 : tie.Need-returns-3
-returns-3 c = absurd (no-range _ _ (c .enum-told2 .given .1) (remainder-is _ (c .before .before .before .before .args .msg .now) (c .before .before .before .before .pre) (c .before .before .remainder .ensures)))
+returns-3 c =
+    let start : tie.Start = search in
+    let at-remainder : tie.After-remainder = search in
+    absurd (no-range _ _ (c .enum-told2 .given .1) (remainder-is _ (start .args .msg .now) (start .pre) (at-remainder .remainder .ensures)))
 
 pub remainder-of-spec : {M : Type 1} → statement M
 remainder-of-spec =

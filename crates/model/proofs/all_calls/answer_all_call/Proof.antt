@@ -16,7 +16,12 @@ silence-requires : tie.Need-silence-requires
 silence-requires c κs = search needs
 
 returns : tie.Need-returns
-returns c = unanswered _ (c .before .before .before .before .args .t) _ _ _ _ _ _ (code-is _ _ (c .before .before .before .code-for .result) (c .before .before .before .code-for .ensures)) (c .before .before .answers-code .ensures) (not-true _ (c .before .if1 .taken)) (c .silence .ensures)
+returns c =
+    let start : tie.Start = search in
+    let at-code-for : tie.After-code-for = search in
+    let at-answers-code : tie.After-answers-code = search in
+    unanswered _ (start .args .t) _ _ _ _ _ _ (code-is _ _ (at-code-for .code-for .result) (at-code-for .code-for .ensures))
+    (at-answers-code .answers-code .ensures) (not-true _ (c .before .if1 .taken)) (c .silence .ensures)
 
 cast-send-all-call : tie.Need-cast-send-all-call
 cast-send-all-call c = search needs
@@ -25,7 +30,13 @@ send-all-call-requires : tie.Need-send-all-call-requires
 send-all-call-requires c κs = search needs
 
 returns-2 : tie.Need-returns-2
-returns-2 c = answered _ (c .before .before .before .before .before .args .t) _ _ _ _ _ _ (code-is _ _ (c .before .before .before .before .code-for .result) (c .before .before .before .before .code-for .ensures)) (c .before .before .before .answers-code .ensures) (not-false _ (c .before .before .if1 .left)) (c .send-all-call .ensures)
+returns-2 c =
+    let start : tie.Start = search in
+    let at-code-for : tie.After-code-for = search in
+    let at-answers-code : tie.After-answers-code = search in
+    let else1 : tie.Else1 = search in
+    answered _ (start .args .t) _ _ _ _ _ _ (code-is _ _ (at-code-for .code-for .result) (at-code-for .code-for .ensures))
+    (at-answers-code .answers-code .ensures) (not-false _ (else1 .if1 .left)) (c .send-all-call .ensures)
 
 pub answer-all-call-spec : {M : Type 1} → statement M
 answer-all-call-spec =

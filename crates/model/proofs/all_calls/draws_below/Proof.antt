@@ -19,14 +19,20 @@ returns-2 c = simp (lt-leb _ _ (c .before .if1 .left), lt-leb 8 (c .before .befo
 
 returns-3 : tie.Need-returns-3
 unfolding drawsBelow
-returns-3 c = simp (lt-leb _ _ (c .before .before .if1 .left), lt-leb _ _ (c .if3 .taken), le-leb 8 (c .before .before .before .args .pr) (omega arith))
+returns-3 c =
+    let else1 : tie.Else1 = search in
+    let start : tie.Start = search in
+    simp (lt-leb _ _ (else1 .if1 .left), lt-leb _ _ (c .if3 .taken), le-leb 8 (start .args .pr) (omega arith))
 
 shr-result-2 : tie.Need-shr-result-2
 shr-result-2 c = search needs
 
 returns-4 : tie.Need-returns-4
 unfolding drawsBelow
-returns-4 c = simp (lt-leb _ _ (c .before .before .if1 .left), le-leb _ _ (c .if3 .left), le-leb 8 (c .before .before .before .args .pr) (omega arith))
+returns-4 c =
+    let else1 : tie.Else1 = search in
+    let start : tie.Start = search in
+    simp (lt-leb _ _ (else1 .if1 .left), le-leb _ _ (c .if3 .left), le-leb 8 (start .args .pr) (omega arith))
 
 pub draws-below-spec : {M : Type 1} → statement M
 draws-below-spec =

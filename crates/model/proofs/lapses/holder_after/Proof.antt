@@ -13,13 +13,17 @@ is-over-requires : tie.Need-is-over-requires
 is-over-requires c κs = search needs
 
 returns : tie.Need-returns
-returns c = simp (c .before .before .before .h .given .1, ← c .before .is-over .ensures, c .if1 .taken)
+returns c =
+    let at-h : tie.After-h = search in
+    simp (at-h .h .given .1, ← c .before .is-over .ensures, c .if1 .taken)
 
 returns-2 : tie.Need-returns-2
 returns-2 c = search needs
 
 returns-3 : tie.Need-returns-3
-returns-3 c = simp (c .before .before .before .h .given .1, ← c .before .is-over .ensures, c .if1 .left)
+returns-3 c =
+    let at-h : tie.After-h = search in
+    simp (at-h .h .given .1, ← c .before .is-over .ensures, c .if1 .left)
 
 pub holder-after-spec : {M : Type 1} → statement M
 holder-after-spec =

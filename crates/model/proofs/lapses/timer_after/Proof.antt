@@ -15,7 +15,9 @@ is-over-requires c κs = search needs
 
 returns : tie.Need-returns
 unfolding timerAfter
-returns c = simp (c .before .before .before .lock .given .1, ← c .before .is-over .ensures, c .if1 .taken)
+returns c =
+    let at-lock : tie.After-lock = search in
+    simp (at-lock .lock .given .1, ← c .before .is-over .ensures, c .if1 .taken)
 
 returns-2 : tie.Need-returns-2
 unfolding timerAfter
@@ -23,7 +25,9 @@ returns-2 c = simp (c .enum-told .given .1)
 
 returns-3 : tie.Need-returns-3
 unfolding timerAfter
-returns-3 c = simp (c .before .before .before .lock .given .1, ← c .before .is-over .ensures, c .if1 .left)
+returns-3 c =
+    let at-lock : tie.After-lock = search in
+    simp (at-lock .lock .given .1, ← c .before .is-over .ensures, c .if1 .left)
 
 pub timer-after-spec : {M : Type 1} → statement M
 timer-after-spec =

@@ -42,10 +42,19 @@ loop-less : tie.Need-loop-less Inv-loop μ-loop
 loop-less c = search needs
 
 loop-again : tie.Need-loop-again Inv-loop μ-loop
-loop-again c = let t = c .before .before .before .before .args .t in let e : length (t .list) ≡ 79 = search (needs, length-mapped) in (search needs, mapped-more _ (t .list) _ _ _ (omega arith) (c .before .before .before .loop .inv .1) _ (c .timer-after .ensures))
+loop-again c =
+    let start : tie.Start Inv-loop μ-loop = search in
+    let at-loop : tie.At-loop Inv-loop μ-loop = search in
+    let t = start .args .t in
+    let e : length (t .list) ≡ 79 = search (needs, length-mapped) in
+    (search needs, mapped-more _ (t .list) _ _ _ (omega arith) (at-loop .loop .inv .1) _ (c .timer-after .ensures))
 
 returns : tie.Need-returns Inv-loop μ-loop
-returns c = let t = c .before .before .args .t in let e : length (t .list) ≡ 79 = search (needs, length-mapped) in let l = mapped-all _ (t .list) (c .before .loop .i) _ (omega arith) (c .before .loop .inv .1) in timers-are _ t _ l
+returns c =
+    let t = c .before .before .args .t in
+    let e : length (t .list) ≡ 79 = search (needs, length-mapped) in
+    let l = mapped-all _ (t .list) (c .before .loop .i) _ (omega arith) (c .before .loop .inv .1) in
+    timers-are _ t _ l
 
 pub timers-after-spec : {M : Type 1} → statement M
 timers-after-spec =

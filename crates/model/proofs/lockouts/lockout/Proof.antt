@@ -18,7 +18,11 @@ start-requires-2 c κs = search needs
 
 returns : tie.Need-returns
 unfolding lockout commanded
-returns c = let a = c .before .before .before .command-of-pc .ensures in let b = c .before .command-of-sd .ensures in let d = c .before .before .start .ensures in let e = c .start2 .ensures in cc
+returns c =
+    let at-command-of-pc : tie.After-command-of-pc = search in
+    let at-start : tie.After-start = search in
+    let a = at-command-of-pc .command-of-pc .ensures in
+    let b = c .before .command-of-sd .ensures in let d = at-start .start .ensures in let e = c .start2 .ensures in cc
 
 pub lockout-spec : {M : Type 1} → statement M
 lockout-spec =

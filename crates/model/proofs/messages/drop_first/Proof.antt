@@ -41,7 +41,12 @@ sub-t27 c = search needs
 
 returns-2 : tie.Need-returns-2
 unfolding messagesAfter
-returns-2 c = let m = c .before .before .before .args .m in let e : length (m .list) ≡ 8 = search needs in let k = c .before .before .count .ensures .0 in let l = moved-up (m .list) e in simp (ne-eqb (length (waiting m)) 0 (λ q. c .before .if1 .left (k ∙ q))) cc
+returns-2 c =
+    let start : tie.Start = search in
+    let at-count : tie.After-count = search in
+    let m = start .args .m in
+    let e : length (m .list) ≡ 8 = search needs in
+    let k = at-count .count .ensures .0 in let l = moved-up (m .list) e in simp (ne-eqb (length (waiting m)) 0 (λ q. c .before .if1 .left (k ∙ q))) cc
 
 pub drop-first-spec : {M : Type 1} → statement M
 drop-first-spec =

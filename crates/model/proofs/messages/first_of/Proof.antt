@@ -18,7 +18,10 @@ element-copy-out-result : tie.Need-element-copy-out-result
 element-copy-out-result c = search needs
 
 returns-2 : tie.Need-returns-2
-returns-2 c = let m = c .before .before .before .args .t1 in let e = c .before .before .count .ensures .0 in let k = length-take (m .n) (m .list) in sym (getD-take (m .n) (m .list) 0 0 (omega arith))
+returns-2 c =
+    let start : tie.Start = search in
+    let at-count : tie.After-count = search in
+    let m = start .args .t1 in let e = at-count .count .ensures .0 in let k = length-take (m .n) (m .list) in sym (getD-take (m .n) (m .list) 0 0 (omega arith))
 
 pub first-of-spec : {M : Type 1} → statement M
 first-of-spec = tie.close (tie.spec count-requires returns element-copy-out-result returns-2)

@@ -22,7 +22,12 @@ add-out c = search needs
 
 returns : tie.Need-returns
 unfolding messagesWith
-returns c = let m = c .before .args .m in let e : length (m .list) ≡ 8 = search needs in let k = c .count .ensures .0 in let l = front-push (m .n) (m .list) (c .before .args .v) _ k (omega arith) in cc
+returns c =
+    let m = c .before .args .m in
+    let e : length (m .list) ≡ 8 = search needs in
+    let k = c .count .ensures .0 in
+    let l = front-push (m .n) (m .list) (c .before .args .v) _ k (omega arith) in
+    cc
 
 pub push-spec : {M : Type 1} → statement M
 push-spec = tie.close (tie.spec count-requires mul-out element-write-out add-out returns)

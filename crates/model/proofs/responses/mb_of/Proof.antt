@@ -17,7 +17,10 @@ first-of-requires : tie.Need-first-of-requires
 first-of-requires c κs = search needs
 
 returns-3 : tie.Need-returns-3
-returns-3 c = simp (eq-eqb _ _ (c .before .before .before .if1 .left), ← c .before .before .bds2 .ensures, eq-eqb _ _ (c .before .if2 .left)) (c .first-of .ensures)
+returns-3 c =
+    let else1 : tie.Else1 = search in
+    let at-bds2 : tie.After-bds2 = search in
+    simp (eq-eqb _ _ (else1 .if1 .left), ← at-bds2 .bds2 .ensures, eq-eqb _ _ (c .before .if2 .left)) (c .first-of .ensures)
 
 pub mb-of-spec : {M : Type 1} → statement M
 mb-of-spec = tie.close (tie.spec returns bds2-requires returns-2 first-of-requires returns-3)

@@ -43,10 +43,23 @@ silence-requires : tie.Need-silence-requires
 silence-requires c κs = search needs
 
 returns : tie.Need-returns
-returns c = responded _ (c .before .before .before .before .before .before .before .before .before .before .args .t) _ _ _ _ _ _ _ _ _ (sym (drawn-is _ _ (c .before .before .before .before .before .drawn .result) (c .before .before .before .before .before .drawn .ensures)) ∙ c .before .before .before .df .given .1) (c .before .before .before .before .before .before .before .before .before .dr-of .ensures) (c .before .before .before .before .before .before .before .before .um-of .ensures) (c .before .before .before .before .before .before .value-of .ensures) (c .before .before .before .before .before .before .before .mb-of .ensures) (c .send .ensures)
+returns c =
+    let start : tie.Start = search in
+    let at-drawn : tie.After-drawn = search in
+    let at-df : tie.After-df = search in
+    let at-dr-of : tie.After-dr-of = search in
+    let at-um-of : tie.After-um-of = search in
+    let at-value-of : tie.After-value-of = search in
+    let at-mb-of : tie.After-mb-of = search in
+    responded _ (start .args .t) _ _ _ _ _ _ _ _ _ (sym (drawn-is _ _ (at-drawn .drawn .result) (at-drawn .drawn .ensures)) ∙ at-df .df .given .1)
+    (at-dr-of .dr-of .ensures) (at-um-of .um-of .ensures) (at-value-of .value-of .ensures) (at-mb-of .mb-of .ensures) (c .send .ensures)
 
 returns-2 : tie.Need-returns-2
-returns-2 c = not-drawn _ (c .before .before .before .before .before .before .before .before .args .t) _ _ _ _ (sym (drawn-is _ _ (c .before .before .before .drawn .result) (c .before .before .before .drawn .ensures)) ∙ c .before .enum-told .given .1) (c .silence .ensures)
+returns-2 c =
+    let start : tie.Start = search in
+    let at-drawn : tie.After-drawn = search in
+    not-drawn _ (start .args .t) _ _ _ _ (sym (drawn-is _ _ (at-drawn .drawn .result) (at-drawn .drawn .ensures)) ∙ c .before .enum-told .given .1)
+    (c .silence .ensures)
 
 pub respond-spec : {M : Type 1} → statement M
 respond-spec =

@@ -13,7 +13,9 @@ hides-um-requires : tie.Need-hides-um-requires
 hides-um-requires c κs = search needs
 
 returns : tie.Need-returns
-returns c = simp (c .before .before .before .h .given .1, ← c .before .hides-um .ensures, c .if1 .taken)
+returns c =
+    let at-h : tie.After-h = search in
+    simp (at-h .h .given .1, ← c .before .hides-um .ensures, c .if1 .taken)
 
 cast-result : tie.Need-cast-result
 cast-result c = search needs
@@ -28,7 +30,9 @@ returns-2 : tie.Need-returns-2
 returns-2 c = search needs
 
 returns-3 : tie.Need-returns-3
-returns-3 c = simp (c .before .before .before .h .given .1, ← c .before .hides-um .ensures, c .if1 .left)
+returns-3 c =
+    let at-h : tie.After-h = search in
+    simp (at-h .h .given .1, ← c .before .hides-um .ensures, c .if1 .left)
 
 pub um-of-spec : {M : Type 1} → statement M
 um-of-spec =

@@ -17,7 +17,9 @@ enum-told-2 : tie.Need-enum-told-2
 enum-told-2 c = search needs
 
 returns : tie.Need-returns
-returns c = over-is _ _ _ (c .before .before .before .uplink-overlay .ensures) _ (c .before .v .given .1)
+returns c =
+    let at-uplink-overlay : tie.After-uplink-overlay = search in
+    over-is _ _ _ (at-uplink-overlay .uplink-overlay .ensures) _ (c .before .v .given .1)
 
 returns-2 : tie.Need-returns-2
 returns-2 c = over-length _ _ _ (c .before .before .uplink-overlay .ensures) (c .enum-told .given .1)

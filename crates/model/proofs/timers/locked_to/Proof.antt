@@ -12,7 +12,10 @@ place-of-requires : tie.Need-place-of-requires
 place-of-requires c κs = search needs
 
 returns : tie.Need-returns
-returns c = let t = c .before .before .args .t1 in let e : length (t .list) ≡ 79 = search (needs, length-mapped) in locked-none t _ _ (c .before .place-of .ensures) (omega arith)
+returns c =
+    let t = c .before .before .args .t1 in
+    let e : length (t .list) ≡ 79 = search (needs, length-mapped) in
+    locked-none t _ _ (c .before .place-of .ensures) (omega arith)
 
 mul-x : tie.Need-mul-x
 mul-x c = search needs
@@ -24,7 +27,11 @@ locks-requires : tie.Need-locks-requires
 locks-requires c κs = search needs
 
 returns-2 : tie.Need-returns-2
-returns-2 c = let t = c .before .before .before .before .args .t1 in let e : length (t .list) ≡ 79 = search (needs, length-mapped) in locked-at t _ _ (c .before .before .before .place-of .ensures) _ _ (omega arith) (c .locks .ensures)
+returns-2 c =
+    let start : tie.Start = search in
+    let at-place-of : tie.After-place-of = search in
+    let t = start .args .t1 in
+    let e : length (t .list) ≡ 79 = search (needs, length-mapped) in locked-at t _ _ (at-place-of .place-of .ensures) _ _ (omega arith) (c .locks .ensures)
 
 pub locked-to-spec : {M : Type 1} → statement M
 locked-to-spec =

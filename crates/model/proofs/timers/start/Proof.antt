@@ -12,7 +12,10 @@ place-of-requires : tie.Need-place-of-requires
 place-of-requires c κs = search needs
 
 returns : tie.Need-returns
-returns c = let t = c .before .before .args .t in let e : length (t .list) ≡ 79 = search (needs, length-mapped) in started-none t _ _ _ (c .before .place-of .ensures) (omega arith)
+returns c =
+    let t = c .before .before .args .t in
+    let e : length (t .list) ≡ 79 = search (needs, length-mapped) in
+    started-none t _ _ _ (c .before .place-of .ensures) (omega arith)
 
 mul-x : tie.Need-mul-x
 mul-x c = search needs

@@ -21,7 +21,9 @@ abbrev μ-loop : tie.MeasureT-loop
 μ-loop msg marks syns many want out₀ k₀ left₀ flips₀ j₀ out k left flips j = length msg - j
 
 loop-holds : tie.Need-loop-holds Inv-loop μ-loop
-loop-holds c = (omega arith, refl, written-start _ _ _ _ _ _ _ (c .before .before .before .pre .3))
+loop-holds c =
+    let start : tie.Start Inv-loop μ-loop = search in
+    (omega arith, refl, written-start _ _ _ _ _ _ _ (start .pre .3))
 
 choose-byte-requires : tie.Need-choose-byte-requires Inv-loop μ-loop
 choose-byte-requires c κs = (omega arith, omega arith, left-first _ _ _ _ _ _ (c .before .loop .inv .2 .left))
@@ -46,16 +48,21 @@ loop-less c = omega arith
 
 loop-again : tie.Need-loop-again Inv-loop μ-loop
 loop-again c =
-    let l = c .before .before .before .before .before .loop in
-    (omega arith, simp length-set (omega arith), written-step _ _ _ _ _ _ _ _ _ _ _ _ _ (omega arith) (omega arith) (l .inv .2) (c .before .before .before .choose-byte .ensures))
+    let at-loop : tie.At-loop Inv-loop μ-loop = search in
+    let at-choose-byte : tie.After-choose-byte Inv-loop μ-loop = search in
+    let l = at-loop .loop in (
+      omega arith,
+      simp length-set (omega arith),
+      written-step _ _ _ _ _ _ _ _ _ _ _ _ _ (omega arith) (omega arith) (l .inv .2) (at-choose-byte .choose-byte .ensures),
+    )
 
 same-length : tie.Need-same-length Inv-loop μ-loop
 same-length c = search needs
 
 returns : tie.Need-returns Inv-loop μ-loop
 returns c =
-    let a = c .before .before .before .before .before .args in
-    written-end _ _ _ _ _ _ _ _ _ (omega (arith, bits-length (a .marks .now))) (omega arith) (omega arith) (c .before .loop .inv .2)
+    let start : tie.Start Inv-loop μ-loop = search in
+    let a = start .args in written-end _ _ _ _ _ _ _ _ _ (omega (arith, bits-length (a .marks .now))) (omega arith) (omega arith) (c .before .loop .inv .2)
 
 pub rebuild-spec : {M : Type 1} → statement M
 rebuild-spec =

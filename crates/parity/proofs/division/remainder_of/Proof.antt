@@ -40,16 +40,14 @@ loop-less c = omega arith
 
 loop-again : tie.Need-loop-again Inv-loop μ-loop
 loop-again c =
-    let l = c .before .before .before .loop in
-    (omega arith, omega arith, turn _ (l .i) (l .r) _ (omega arith) (c .byte-in .ensures .0) ∙ l .inv .2)
+    let at-loop : tie.At-loop Inv-loop μ-loop = search in
+    let l = at-loop .loop in (omega arith, omega arith, turn _ (l .i) (l .r) _ (omega arith) (c .byte-in .ensures .0) ∙ l .inv .2)
 
 returns : tie.Need-returns Inv-loop μ-loop
 unfolding remainderOf bits divide
 returns c =
-    let l = c .before .loop in
-    let m = c .before .before .before .args .msg .now in
-    let d : drop (l .i) m ≡ [] = drop-of-length-le m {i = l .i} (omega arith) in
-    rw d at (l .inv .2)
+    let start : tie.Start Inv-loop μ-loop = search in
+    let l = c .before .loop in let m = start .args .msg .now in let d : drop (l .i) m ≡ [] = drop-of-length-le m {i = l .i} (omega arith) in rw d at (l .inv .2)
 
 pub remainder-of-spec : {M : Type 1} → statement M
 remainder-of-spec =

@@ -16,8 +16,9 @@ seven-or-fourteen-requires c κs = search needs
 
 returns-3 : tie.Need-returns-3
 returns-3 c =
-    let a = c .before .before .before .args in
-    c .seven-or-fourteen .ensures ∙ sym (rw (eq-eqb (a .marks) (a .n) (c .before .before .if1 .left), eq-eqb (a .out) (a .n) (c .before .if2 .left)))
+    let start : tie.Start = search in
+    let else1 : tie.Else1 = search in
+    let a = start .args in c .seven-or-fourteen .ensures ∙ sym (rw (eq-eqb (a .marks) (a .n) (else1 .if1 .left), eq-eqb (a .out) (a .n) (c .before .if2 .left)))
 
 pub sized-spec : {M : Type 1} → statement M
 sized-spec = tie.close (tie.spec returns returns-2 seven-or-fourteen-requires returns-3)

@@ -36,7 +36,8 @@ bit-requires c κs = omega arith
 
 noted-requires : tie.Need-noted-requires Inv-loop μ-loop
 noted-requires c κs =
-    let m = c .before .before .before .before .before .args .marks .now in
+    let start : tie.Start Inv-loop μ-loop = search in
+    let m = start .args .marks .now in
     (omega arith, omega arith, subst (λ (b : ℕ). b < 2) (sym (c .bit .ensures)) (are-at (bits m) (bits-are m) _), omega arith)
 
 add-k : tie.Need-add-k Inv-loop μ-loop
@@ -47,8 +48,10 @@ loop-less c = omega arith
 
 loop-again : tie.Need-loop-again Inv-loop μ-loop
 loop-again c =
-    let l = c .before .before .before .before .loop in
-    let m = c .before .before .before .before .before .before .args .marks .now in
+    let at-loop : tie.At-loop Inv-loop μ-loop = search in
+    let start : tie.Start Inv-loop μ-loop = search in
+    let l = at-loop .loop in
+    let m = start .args .marks .now in
     let b = are-at (bits m) (bits-are m) (length m * 8 - 1 - l .k) in
     let e = c .before .bit .ensures in (
       refl,
@@ -60,9 +63,8 @@ loop-again c =
 
 returns : tie.Need-returns Inv-loop μ-loop
 returns c =
-    let l = c .before .loop in
-    let m = c .before .before .before .args .marks .now in
-    gathered-all (bits m) _ (length m * 8) (l .k) _ (omega arith) (l .inv .4)
+    let start : tie.Start Inv-loop μ-loop = search in
+    let l = c .before .loop in let m = start .args .marks .now in gathered-all (bits m) _ (length m * 8) (l .k) _ (omega arith) (l .inv .4)
 
 pub gather-spec : {M : Type 1} → statement M
 gather-spec =

@@ -31,9 +31,14 @@ add-result-2 c = search needs
 
 returns-3 : tie.Need-returns-3
 returns-3 c =
-    let a = c .before .before .before .args in
+    let start : tie.Start = search in
+    let a = start .args in
     let e : a .b ≡ 1 = omega arith in
-    record { room = simp length-set (omega arith); counted = omega arith; kept = λ h. rw (e, add-one (a .many), ← c .syndrome-of .ensures) (back-set (a .many) (c .syndrome-of .result) (a .syns .now) (omega arith)) }
+    record {
+      room = simp length-set (omega arith);
+      counted = omega arith;
+      kept = λ h. rw (e, add-one (a .many), ← c .syndrome-of .ensures) (back-set (a .many) (c .syndrome-of .result) (a .syns .now) (omega arith));
+    }
 
 pub noted-spec : {M : Type 1} → statement M
 noted-spec =

@@ -52,8 +52,9 @@ loop-less c = omega arith
 
 loop-again : tie.Need-loop-again Inv-loop μ-loop
 loop-again c =
-    let l = c .before .before .before .before .before .before .loop in
-    (omega arith, byte-step _ _ _ _ _ _ _ _ _ _ _ _ (omega arith) (l .inv .1) (c .before .before .before .before .choose .ensures))
+    let at-loop : tie.At-loop Inv-loop μ-loop = search in
+    let at-choose : tie.After-choose Inv-loop μ-loop = search in
+    let l = at-loop .loop in (omega arith, byte-step _ _ _ _ _ _ _ _ _ _ _ _ (omega arith) (l .inv .1) (at-choose .choose .ensures))
 
 returns : tie.Need-returns Inv-loop μ-loop
 returns c = byte-end _ _ _ _ _ _ _ _ _ (c .before .loop .inv .0) (omega arith) (c .before .loop .inv .1)

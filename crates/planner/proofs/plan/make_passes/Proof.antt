@@ -32,8 +32,10 @@ wide-requires c κs = search needs
 loop-holds : tie.Need-loop-holds Inv-loop μ-loop
 loop-holds c =
     let s = c .before .before .before in
-    let m : length (s .args .asks) ≡ 128 = search (needs, length-mapped) in
-    (search needs, turn-none (c .before .before .wide .result) (s .args .s .guarantee) (s .args .n) (s .args .old) (s .args .asks) _ refl (omega (arith, s .pre)))
+    let m : length (s .args .asks) ≡ 128 = search (needs, length-mapped) in (
+      search needs,
+      turn-none (c .before .before .wide .result) (s .args .s .guarantee) (s .args .n) (s .args .old) (s .args .asks) _ refl (omega (arith, s .pre)),
+    )
 
 alone-in-requires : tie.Need-alone-in-requires Inv-loop μ-loop
 alone-in-requires c κs = search needs
@@ -42,8 +44,13 @@ pass-over-requires : tie.Need-pass-over-requires Inv-loop μ-loop
 pass-over-requires c κs =
     let l = c .before .before .before .before in
     let s = start l in
-    let h = l .loop .inv .1 in
-    (period-fits (period l), turn-room (period l .wide .result) (s .args .s .guarantee) (s .args .n) (s .args .old) (s .args .asks) (l .loop .u) (l .loop .r) (l .loop .rows) (l .loop .counts) (s .pre) h, h .shown, h .tallied)
+    let h = l .loop .inv .1 in (
+      period-fits (period l),
+      turn-room (period l .wide .result) (s .args .s .guarantee) (s .args .n) (s .args .old) (s .args .asks) (l .loop .u) (l .loop .r) (l .loop .rows)
+          (l .loop .counts) (s .pre) h,
+      h .shown,
+      h .tallied,
+    )
 
 add-u : tie.Need-add-u Inv-loop μ-loop
 add-u c = search needs
@@ -55,15 +62,23 @@ loop-again : tie.Need-loop-again Inv-loop μ-loop
 loop-again c =
     let x = c .before .before .before in
     let l = x .before .before in
-    let s = start l in
-    (search needs, turn-more (period l .wide .result) (s .args .s .guarantee) (s .args .n) (s .args .old) (s .args .asks) (l .loop .u) (x .alone-in .result) (l .loop .r) (c .pass-over .result) (l .loop .rows) (l .loop .counts) _ _ (x .alone-in .ensures) (l .loop .inv .1) (c .pass-over .ensures))
+    let s = start l in (
+      search needs,
+      turn-more (period l .wide .result) (s .args .s .guarantee) (s .args .n) (s .args .old) (s .args .asks) (l .loop .u) (x .alone-in .result) (l .loop .r)
+          (c .pass-over .result) (l .loop .rows) (l .loop .counts) _ _ (x .alone-in .ensures) (l .loop .inv .1) (c .pass-over .ensures),
+    )
 
 pass-over-requires-2 : tie.Need-pass-over-requires-2 Inv-loop μ-loop
 pass-over-requires-2 c κs =
     let l = c .before .before .before in
     let s = start l in
-    let h = l .loop .inv .1 in
-    (period-fits (period l), turn-room (period l .wide .result) (s .args .s .guarantee) (s .args .n) (s .args .old) (s .args .asks) (l .loop .u) (l .loop .r) (l .loop .rows) (l .loop .counts) (s .pre) h, h .shown, h .tallied)
+    let h = l .loop .inv .1 in (
+      period-fits (period l),
+      turn-room (period l .wide .result) (s .args .s .guarantee) (s .args .n) (s .args .old) (s .args .asks) (l .loop .u) (l .loop .r) (l .loop .rows)
+          (l .loop .counts) (s .pre) h,
+      h .shown,
+      h .tallied,
+    )
 
 returns : tie.Need-returns Inv-loop μ-loop
 returns c =

@@ -69,10 +69,11 @@ element-write-rows-5 c = search needs
 
 returns : tie.Need-returns
 unfolding noted
-returns c = let w = c .before .before .before .wide .ensures in
-    let o = c .before .before .before .before .of .ensures in
-    let to = ap (λ (r : Exchange). r .to) (o .0) in
-    (rw (w, o .0), omega (arith, w, o .1 .to, to))
+returns c =
+    let at-wide : tie.After-wide = search in
+    let at-of : tie.After-of = search in
+    let w = at-wide .wide .ensures in
+    let o = at-of .of .ensures in let to = ap (λ (r : Exchange). r .to) (o .0) in (rw (w, o .0), omega (arith, w, o .1 .to, to))
 
 pub note-spec : {M : Type 1} → statement M
 note-spec =

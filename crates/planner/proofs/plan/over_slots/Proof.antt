@@ -46,8 +46,10 @@ loop-again c =
     let l = c .before .before in
     let s = l .before in
     let e : length (s .args .t3) ≡ 128 = search (needs, length-mapped) in
-    let f : length (s .args .base) ≡ 128 = search (needs, length-mapped) in
-    (search needs, copied-more itself (s .args .t3) (s .args .base) (l .loop .i) (l .loop .out) _ (omega (arith, s .pre)) (omega (arith, s .pre)) (l .loop .inv .1))
+    let f : length (s .args .base) ≡ 128 = search (needs, length-mapped) in (
+      search needs,
+      copied-more itself (s .args .t3) (s .args .base) (l .loop .i) (l .loop .out) _ (omega (arith, s .pre)) (omega (arith, s .pre)) (l .loop .inv .1),
+    )
 
 returns : tie.Need-returns Inv-loop μ-loop
 returns c =

@@ -14,7 +14,8 @@ use Rattle.planner.proofs.plan.pass_over.Tie as tie
 
 abbrev Inv-loop : tie.InvT-loop
 Inv-loop l limits rows₀ counts₀ b placed₀ entries₀ waiting₀ asks₀ i₀ rows counts placed entries waiting asks i =
-    Passing l limits b i counts (record { placed = placed; entries = entries; waiting = waiting; asks = asks }) × (length limits ≡ 8) × (length entries ≡ 128) × Shown rows placed entries
+    Passing l limits b i counts (record { placed = placed; entries = entries; waiting = waiting; asks = asks })
+    × (length limits ≡ 8) × (length entries ≡ 128) × Shown rows placed entries
 
 abbrev μ-loop : tie.MeasureT-loop
 μ-loop l limits rows₀ counts₀ b placed₀ entries₀ waiting₀ asks₀ i₀ rows counts placed entries waiting asks i = b .waiting - i
@@ -34,8 +35,12 @@ entered c = c .before .before .before .before
 
 loop-holds : tie.Need-loop-holds Inv-loop μ-loop
 loop-holds c =
-    let s = c .before .before in
-    (pass-start (s .args .l) (s .args .limits) (s .args .b) _ (s .pre .3) (s .pre .1) (search (needs, length-mapped)) (search (needs, length-mapped)), search needs, search (needs, length-mapped), s .pre .2)
+    let s = c .before .before in (
+      pass-start (s .args .l) (s .args .limits) (s .args .b) _ (s .pre .3) (s .pre .1) (search (needs, length-mapped)) (search (needs, length-mapped)),
+      search needs,
+      search (needs, length-mapped),
+      s .pre .2,
+    )
 
 mul-a : tie.Need-mul-a Inv-loop μ-loop
 mul-a c = search needs
@@ -66,10 +71,16 @@ loop-less c = search needs
 
 loop-again : tie.Need-loop-again Inv-loop μ-loop
 loop-again c =
+    let at-share : tie.After-share Inv-loop μ-loop = search in
     let x = shared (c .before) in
     let l = x .before .before in
-    let s = l .before .before .before in
-    (pass-limit (s .args .l) (s .args .limits) (s .args .b) (l .loop .i) (l .loop .counts) (slots l) (l .loop .inv .0) _ (x .if1 .taken) _ _ (l .loop .inv .1) (c .before .before .before .share .ensures .0) (c .before .share2 .ensures .0) (c .if2 .taken), l .loop .inv .1, l .loop .inv .2, l .loop .inv .3)
+    let s = l .before .before .before in (
+      pass-limit (s .args .l) (s .args .limits) (s .args .b) (l .loop .i) (l .loop .counts) (slots l) (l .loop .inv .0) _ (x .if1 .taken) _ _
+          (l .loop .inv .1) (at-share .share .ensures .0) (c .before .share2 .ensures .0) (c .if2 .taken),
+      l .loop .inv .1,
+      l .loop .inv .2,
+      l .loop .inv .3,
+    )
 
 first-fit-requires : tie.Need-first-fit-requires Inv-loop μ-loop
 first-fit-requires c κs = search needs
@@ -107,6 +118,7 @@ loop-less-2 c = search needs
 
 loop-again-2 : tie.Need-loop-again-2 Inv-loop μ-loop
 loop-again-2 c =
+    let at-note : tie.After-note Inv-loop μ-loop = search in
     let e = c .before .before .before .before in
     let f = entered e in
     let g = fitted f in
@@ -117,8 +129,16 @@ loop-again-2 c =
     let below : l .loop .placed < 128 = omega (arith, h .sum, h .room, x .if1 .taken) in
     let inside : l .loop .placed < length (l .loop .entries) = omega (arith, l .loop .inv .2) in
     let all : l .loop .placed ≤ length (l .loop .entries) = omega (arith, inside) in
-    let v = e .before .before in
-    (pass-at (s .args .l) (s .args .limits) (s .args .b) (l .loop .i) (l .loop .counts) (slots l) h _ (x .if1 .taken) _ _ (l .loop .inv .1) (g .before .before .share .ensures .0) (g .share2 .ensures .0) (f .before .before .if2 .left) (v .t .given .0 .0) (e .entry-at .result) (c .one-more .last .0) (e .entry-at .ensures) (c .one-more .ensures) (sym (v .t .given .1) ∙ f .first-fit .ensures (l .loop .entries) all (l .loop .inv .3)), l .loop .inv .1, length-set (l .loop .entries) (l .loop .placed) (e .entry-at .result) ∙ l .loop .inv .2, shown-placed (l .loop .rows) (c .before .before .note .last .0) (l .loop .placed) (l .loop .entries) _ (e .entry-at .result) (c .before .before .note .ensures .0) (e .entry-at .ensures) (c .before .before .note .ensures .1) inside below (l .loop .inv .3))
+    let v = e .before .before in (
+      pass-at (s .args .l) (s .args .limits) (s .args .b) (l .loop .i) (l .loop .counts) (slots l) h _ (x .if1 .taken) _ _ (l .loop .inv .1)
+          (g .before .before .share .ensures .0) (g .share2 .ensures .0) (f .before .before .if2 .left) (v .t .given .0 .0) (e .entry-at .result)
+          (c .one-more .last .0) (e .entry-at .ensures) (c .one-more .ensures)
+          (sym (v .t .given .1) ∙ f .first-fit .ensures (l .loop .entries) all (l .loop .inv .3)),
+      l .loop .inv .1,
+      length-set (l .loop .entries) (l .loop .placed) (e .entry-at .result) ∙ l .loop .inv .2,
+      shown-placed (l .loop .rows) (at-note .note .last .0) (l .loop .placed) (l .loop .entries) _ (e .entry-at .result) (at-note .note .ensures .0)
+          (e .entry-at .ensures) (at-note .note .ensures .1) inside below (l .loop .inv .3),
+    )
 
 enum-told : tie.Need-enum-told Inv-loop μ-loop
 enum-told c = search needs
@@ -143,8 +163,14 @@ loop-again-3 c =
     let l = x .before .before in
     let s = l .before .before .before in
     let h = l .loop .inv .0 in
-    let all : l .loop .placed ≤ length (l .loop .entries) = omega (arith, h .sum, h .upto, h .room, l .loop .inv .2) in
-    (pass-stay (s .args .l) (s .args .limits) (s .args .b) (l .loop .i) (l .loop .counts) (slots l) h _ (x .if1 .taken) _ _ (l .loop .inv .1) (g .before .before .share .ensures .0) (g .share2 .ensures .0) (f .before .before .if2 .left) (sym (c .enum-told .given .1) ∙ f .first-fit .ensures (l .loop .entries) all (l .loop .inv .3)), l .loop .inv .1, l .loop .inv .2, l .loop .inv .3)
+    let all : l .loop .placed ≤ length (l .loop .entries) = omega (arith, h .sum, h .upto, h .room, l .loop .inv .2) in (
+      pass-stay (s .args .l) (s .args .limits) (s .args .b) (l .loop .i) (l .loop .counts) (slots l) h _ (x .if1 .taken) _ _ (l .loop .inv .1)
+          (g .before .before .share .ensures .0) (g .share2 .ensures .0) (f .before .before .if2 .left)
+          (sym (c .enum-told .given .1) ∙ f .first-fit .ensures (l .loop .entries) all (l .loop .inv .3)),
+      l .loop .inv .1,
+      l .loop .inv .2,
+      l .loop .inv .3,
+    )
 
 returns : tie.Need-returns Inv-loop μ-loop
 returns c =

@@ -30,7 +30,10 @@ returns c = let p4 = c .before .before in
     record {
       up = omega (arith, p1 .past .ensures .up, p2 .past2 .ensures .up, p3 .past3 .ensures .up, p4 .past4 .ensures .up, c .past5 .ensures .up);
       cap = c .past5 .ensures .cap;
-      step = λ a e x y h1 h2 h3 h4 h5. one-aircraft a e (g .t) (g .p) (g .at) (g .sent) (g .from) (g .end) x h1 h2 h3 h4 (p1 .past .result) (p2 .past2 .result) (p3 .past3 .result) (p4 .past4 .result) (c .past5 .result) (p1 .past .ensures) (p2 .past2 .ensures) (p3 .past3 .ensures) (p4 .past4 .ensures) (sym y ∙ c .before .if1 .taken ∙ h5) (c .past5 .ensures);
+      step =
+          λ a e x y h1 h2 h3 h4 h5. one-aircraft a e (g .t) (g .p) (g .at) (g .sent) (g .from) (g .end) x h1 h2 h3 h4 (p1 .past .result) (p2 .past2 .result)
+          (p3 .past3 .result) (p4 .past4 .result) (c .past5 .result) (p1 .past .ensures) (p2 .past2 .ensures) (p3 .past3 .ensures) (p4 .past4 .ensures)
+          (sym y ∙ c .before .if1 .taken ∙ h5) (c .past5 .ensures);
     }
 
 returns-2 : tie.Need-returns-2
@@ -42,7 +45,10 @@ returns-2 c = let p4 = c .before in
     record {
       up = omega (arith, p1 .past .ensures .up, p2 .past2 .ensures .up, p3 .past3 .ensures .up, p4 .past4 .ensures .up);
       cap = p4 .past4 .ensures .cap;
-      step = λ a e x y h1 h2 h3 h4 h5. two-aircraft a e (g .t) (g .p) (g .at) (g .sent) (g .from) (g .end) x h1 h2 h3 h4 (p1 .past .result) (p2 .past2 .result) (p3 .past3 .result) (p4 .past4 .result) (p1 .past .ensures) (p2 .past2 .ensures) (p3 .past3 .ensures) (p4 .past4 .ensures) (λ q. c .if1 .left (y ∙ q ∙ sym h5));
+      step =
+          λ a e x y h1 h2 h3 h4 h5. two-aircraft a e (g .t) (g .p) (g .at) (g .sent) (g .from) (g .end) x h1 h2 h3 h4 (p1 .past .result) (p2 .past2 .result)
+          (p3 .past3 .result) (p4 .past4 .result) (p1 .past .ensures) (p2 .past2 .ensures) (p3 .past3 .ensures) (p4 .past4 .ensures)
+          (λ q. c .if1 .left (y ∙ q ∙ sym h5));
     }
 
 pub bump-spec : {M : Type 1} → statement M

@@ -16,7 +16,9 @@ use Rattle.planner.proofs.search.first_fit.Tie as tie
 
 -- the rounds of any request and entries that the numbers tell of, and the bounds of the numbers themselves
 abbrev Inv-loop : tie.InvT-loop
-Inv-loop l n rows p last address from₀ t₀ i₀ from t i = ((a : Ask) (es : List Entry) → p ≡ held (exchangeOf a) → address ≡ a .request .address → n ≤ length es → Shown rows n es → Rounds l a n es from t i) × (from ≤ t) × (t ≤ 200000) × (i ≤ n) × ((k : ℕ) → k < n → Roomy rows k)
+Inv-loop l n rows p last address from₀ t₀ i₀ from t i =
+    ((a : Ask) (es : List Entry) → p ≡ held (exchangeOf a) → address ≡ a .request .address → n ≤ length es → Shown rows n es → Rounds l a n es from t i)
+    × (from ≤ t) × (t ≤ 200000) × (i ≤ n) × ((k : ℕ) → k < n → Roomy rows k)
 
 abbrev μ-loop : tie.MeasureT-loop
 μ-loop l n rows p last address from₀ t₀ i₀ from t i = (l - from) * 130 + (n - i)
@@ -50,8 +52,14 @@ loop-again c = let l = c .before .before .before in
     let o = l .before .before .before .before in
     let g = o .before .args in
     let i<n = c .before .if2 .taken in
-    let up = c .nudge .ensures .up in
-    (λ a es x y k h. round-more (g .l) a (g .n) es (l .loop .from) (l .loop .t) (l .loop .i) (c .nudge .result) (entryAt a 0) i<n k (l .loop .inv .0 a es x y k h) (c .nudge .ensures .step a _ x y (h .each (l .loop .i) (entryAt a 0) i<n)), omega (arith, l .loop .inv .1), c .nudge .ensures .cap, omega arith, l .loop .inv .4)
+    let up = c .nudge .ensures .up in (
+      λ a es x y k h. round-more (g .l) a (g .n) es (l .loop .from) (l .loop .t) (l .loop .i) (c .nudge .result) (entryAt a 0) i<n k
+          (l .loop .inv .0 a es x y k h) (c .nudge .ensures .step a _ x y (h .each (l .loop .i) (entryAt a 0) i<n)),
+      omega (arith, l .loop .inv .1),
+      c .nudge .ensures .cap,
+      omega arith,
+      l .loop .inv .4,
+    )
 
 cast-t13 : tie.Need-cast-t13 Inv-loop μ-loop
 cast-t13 c = search needs
@@ -70,8 +78,13 @@ loop-less-2 c = let l = c .before .before .before in omega (arith, l .loop .inv 
 loop-again-2 : tie.Need-loop-again-2 Inv-loop μ-loop
 loop-again-2 c = let l = c .before .before .before in
     let o = l .before .before .before .before in
-    let g = o .before .args in
-    (λ a es x y k h. round-new (g .l) a (g .n) es (l .loop .from) (l .loop .t) (l .loop .i) (l .loop .inv .2) (l .loop .inv .0 a es x y k h), omega arith, l .loop .inv .2, omega arith, l .loop .inv .4)
+    let g = o .before .args in (
+      λ a es x y k h. round-new (g .l) a (g .n) es (l .loop .from) (l .loop .t) (l .loop .i) (l .loop .inv .2) (l .loop .inv .0 a es x y k h),
+      omega arith,
+      l .loop .inv .2,
+      omega arith,
+      l .loop .inv .4,
+    )
 
 returns-3 : tie.Need-returns-3 Inv-loop μ-loop
 returns-3 c = let l = c .before in

@@ -28,10 +28,13 @@ share-requires-2 : tie.Need-share-requires-2 Inv-loop μ-loop
 share-requires-2 c κs = search needs
 
 returns : tie.Need-returns Inv-loop μ-loop
-returns c = let s = c .before .before .before .before .before in
+returns c =
+    let at-loop : tie.At-loop Inv-loop μ-loop = search in
+    let at-share : tie.After-share Inv-loop μ-loop = search in
+    let s = c .before .before .before .before .before in
     let p = ordered (s .args .guarantee) (s .args .ceiling) in
-    let l = c .before .before .before .before .loop in
-    let v = c .before .before .share .ensures .0 in
+    let l = at-loop .loop in
+    let v = at-share .share .ensures .0 in
     let w = c .before .share2 .ensures .0 in
     sym (every-fails p 8 (l .u) (search needs) (lt-leb (share (s .args .guarantee) (l .u)) (share (s .args .ceiling) (l .u)) (omega arith)))
 
@@ -42,17 +45,21 @@ loop-less : tie.Need-loop-less Inv-loop μ-loop
 loop-less c = search needs
 
 loop-again : tie.Need-loop-again Inv-loop μ-loop
-loop-again c = let s = c .before .before .before .before .before in
+loop-again c =
+    let at-loop : tie.At-loop Inv-loop μ-loop = search in
+    let at-share : tie.After-share Inv-loop μ-loop = search in
+    let s = c .before .before .before .before .before in
     let p = ordered (s .args .guarantee) (s .args .ceiling) in
-    let l = c .before .before .before .before .loop in
-    let v = c .before .before .share .ensures .0 in
+    let l = at-loop .loop in
+    let v = at-share .share .ensures .0 in
     let w = c .before .share2 .ensures .0 in
     (search needs, every-more p (l .u) (l .inv .1) (le-leb (share (s .args .guarantee) (l .u)) (share (s .args .ceiling) (l .u)) (omega arith)))
 
 returns-2 : tie.Need-returns-2 Inv-loop μ-loop
-returns-2 c = let p = ordered (c .before .before .args .guarantee) (c .before .before .args .ceiling) in
-    let e : c .before .loop .u ≡ 8 = search needs in
-    sym (ap (every p) (sym e) ∙ c .before .loop .inv .1)
+returns-2 c =
+    let start : tie.Start Inv-loop μ-loop = search in
+    let p = ordered (start .args .guarantee) (start .args .ceiling) in
+    let e : c .before .loop .u ≡ 8 = search needs in sym (ap (every p) (sym e) ∙ c .before .loop .inv .1)
 
 pub in-order-spec : {M : Type 1} → statement M
 in-order-spec =

@@ -25,11 +25,12 @@ share-requires : tie.Need-share-requires Inv-loop μ-loop
 share-requires c κs = search needs
 
 returns : tie.Need-returns Inv-loop μ-loop
-returns c = let s = c .before .before .before .before in
+returns c =
+    let at-loop : tie.At-loop Inv-loop μ-loop = search in
+    let s = c .before .before .before .before in
     let p = inRange (s .args .shares) in
-    let l = c .before .before .before .loop in
-    let v = c .before .share .ensures .0 in
-    sym (every-fails p 8 (l .u) (search needs) (lt-leb (share (s .args .shares) (l .u)) 16 (omega arith)))
+    let l = at-loop .loop in
+    let v = c .before .share .ensures .0 in sym (every-fails p 8 (l .u) (search needs) (lt-leb (share (s .args .shares) (l .u)) 16 (omega arith)))
 
 add-u : tie.Need-add-u Inv-loop μ-loop
 add-u c = search needs
@@ -38,11 +39,12 @@ loop-less : tie.Need-loop-less Inv-loop μ-loop
 loop-less c = search needs
 
 loop-again : tie.Need-loop-again Inv-loop μ-loop
-loop-again c = let s = c .before .before .before .before in
+loop-again c =
+    let at-loop : tie.At-loop Inv-loop μ-loop = search in
+    let s = c .before .before .before .before in
     let p = inRange (s .args .shares) in
-    let l = c .before .before .before .loop in
-    let v = c .before .share .ensures .0 in
-    (search needs, every-more p (l .u) (l .inv .1) (le-leb (share (s .args .shares) (l .u)) 16 (omega arith)))
+    let l = at-loop .loop in
+    let v = c .before .share .ensures .0 in (search needs, every-more p (l .u) (l .inv .1) (le-leb (share (s .args .shares) (l .u)) 16 (omega arith)))
 
 returns-2 : tie.Need-returns-2 Inv-loop μ-loop
 returns-2 c = let p = inRange (c .before .before .args .shares) in

@@ -16,8 +16,9 @@ short-at-requires-2 c κs = search needs
 
 returns : tie.Need-returns
 returns c =
-    let a = c .before .before .before .before .args in
-    rw (c .before .before .long-at .ensures ∙ number-here (a .s .now) (a .at) 3, c .before .short-at .ensures, c .short-at2 .ensures)
+    let start : tie.Start = search in
+    let at-long-at : tie.After-long-at = search in
+    let a = start .args in rw (at-long-at .long-at .ensures ∙ number-here (a .s .now) (a .at) 3, c .before .short-at .ensures, c .short-at2 .ensures)
 
 pub edges-at-spec : {M : Type 1} → statement M
 edges-at-spec =

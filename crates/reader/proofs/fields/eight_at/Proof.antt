@@ -51,16 +51,16 @@ byte-at-requires-8 c κs = search needs
 
 returns : tie.Need-returns
 returns c =
-    let a = c .before .before .before .before .before .before .before .before .before .args in
-    eight-of (a .s .now) (a .at) (a .from)
-    (c .before .before .before .before .before .before .before .byte-at .ensures)
-    (c .before .before .before .before .before .before .byte-at2 .ensures)
-    (c .before .before .before .before .before .byte-at3 .ensures)
-    (c .before .before .before .before .byte-at4 .ensures)
-    (c .before .before .before .byte-at5 .ensures)
-    (c .before .before .byte-at6 .ensures)
-    (c .before .byte-at7 .ensures)
-    (c .byte-at8 .ensures)
+    let start : tie.Start = search in
+    let at-byte-at : tie.After-byte-at = search in
+    let at-byte-at2 : tie.After-byte-at2 = search in
+    let at-byte-at3 : tie.After-byte-at3 = search in
+    let at-byte-at4 : tie.After-byte-at4 = search in
+    let at-byte-at5 : tie.After-byte-at5 = search in
+    let at-byte-at6 : tie.After-byte-at6 = search in
+    let a = start .args in
+    eight-of (a .s .now) (a .at) (a .from) (at-byte-at .byte-at .ensures) (at-byte-at2 .byte-at2 .ensures) (at-byte-at3 .byte-at3 .ensures)
+    (at-byte-at4 .byte-at4 .ensures) (at-byte-at5 .byte-at5 .ensures) (at-byte-at6 .byte-at6 .ensures) (c .before .byte-at7 .ensures) (c .byte-at8 .ensures)
 
 pub eight-at-spec : {M : Type 1} → statement M
 eight-at-spec =

@@ -34,9 +34,21 @@ place-after-requires-3 c κs = search needs
 
 returns : tie.Need-returns
 returns c =
-    let a = c .before .before .before .before .before .before .before .args in
-    let n = c .before .before .before .before .before .message-length .ensures .0 in
-    rw (c .before .before .before .before .byte-at .ensures ∙ byte-here (a .s .now) (a .at), c .before .before .before .long-at .ensures, c .before .before .place-after .ensures, c .before .place-after2 .ensures, c .place-after3 .ensures, n)
+    let start : tie.Start = search in
+    let at-message-length : tie.After-message-length = search in
+    let at-byte-at : tie.After-byte-at = search in
+    let at-long-at : tie.After-long-at = search in
+    let at-place-after : tie.After-place-after = search in
+    let a = start .args in
+    let n = at-message-length .message-length .ensures .0 in
+    rw (
+      at-byte-at .byte-at .ensures ∙ byte-here (a .s .now) (a .at),
+      at-long-at .long-at .ensures,
+      at-place-after .place-after .ensures,
+      c .before .place-after2 .ensures,
+      c .place-after3 .ensures,
+      n,
+    )
 
 pub reply-at-spec : {M : Type 1} → statement M
 reply-at-spec =

@@ -31,8 +31,24 @@ number-at-requires c κs = search needs
 
 returns : tie.Need-returns
 returns c =
-    let a = c .before .before .before .before .before .before .before .before .before .args in
-    rw (c .before .before .before .before .before .before .before .byte-at .ensures ∙ byte-here (a .s .now) (a .at), c .before .before .before .before .before .before .long-at .ensures, c .before .before .before .before .before .byte-at2 .ensures, c .before .before .before .before .byte-at3 .ensures, c .before .before .before .byte-at4 .ensures, c .before .before .byte-at5 .ensures, c .before .short-at .ensures, c .number-at .ensures .0)
+    let start : tie.Start = search in
+    let at-byte-at : tie.After-byte-at = search in
+    let at-long-at : tie.After-long-at = search in
+    let at-byte-at2 : tie.After-byte-at2 = search in
+    let at-byte-at3 : tie.After-byte-at3 = search in
+    let at-byte-at4 : tie.After-byte-at4 = search in
+    let at-byte-at5 : tie.After-byte-at5 = search in
+    let a = start .args in
+    rw (
+      at-byte-at .byte-at .ensures ∙ byte-here (a .s .now) (a .at),
+      at-long-at .long-at .ensures,
+      at-byte-at2 .byte-at2 .ensures,
+      at-byte-at3 .byte-at3 .ensures,
+      at-byte-at4 .byte-at4 .ensures,
+      at-byte-at5 .byte-at5 .ensures,
+      c .before .short-at .ensures,
+      c .number-at .ensures .0,
+    )
 
 pub request-at-spec : {M : Type 1} → statement M
 request-at-spec =

@@ -22,8 +22,18 @@ byte-at-requires c κs = search needs
 
 returns : tie.Need-returns
 returns c =
-    let a = c .before .before .before .before .before .before .args in
-    rw (c .before .before .before .before .eight-at .ensures, c .before .before .before .eight-at2 .ensures, c .before .before .short-at .ensures ∙ number-here (a .s .now) (a .at) 2, c .before .short-at2 .ensures, c .byte-at .ensures)
+    let start : tie.Start = search in
+    let at-eight-at : tie.After-eight-at = search in
+    let at-eight-at2 : tie.After-eight-at2 = search in
+    let at-short-at : tie.After-short-at = search in
+    let a = start .args in
+    rw (
+      at-eight-at .eight-at .ensures,
+      at-eight-at2 .eight-at2 .ensures,
+      at-short-at .short-at .ensures ∙ number-here (a .s .now) (a .at) 2,
+      c .before .short-at2 .ensures,
+      c .byte-at .ensures,
+    )
 
 pub setup-at-spec : {M : Type 1} → statement M
 setup-at-spec =

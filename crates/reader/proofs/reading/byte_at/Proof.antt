@@ -13,13 +13,14 @@ shared-slice-read-result c = search needs
 
 returns : tie.Need-returns
 returns c =
-    let a = c .before .before .before .before .args in
-    byte-inside (a .s .now) (a .at + a .k) _ (c .before .before .place-after .ensures) (c .before .if1 .taken)
+    let start : tie.Start = search in
+    let at-place-after : tie.After-place-after = search in
+    let a = start .args in byte-inside (a .s .now) (a .at + a .k) _ (at-place-after .place-after .ensures) (c .before .if1 .taken)
 
 returns-2 : tie.Need-returns-2
 returns-2 c =
-    let a = c .before .before .before .args in
-    byte-beyond (a .s .now) (a .at + a .k) _ (c .before .place-after .ensures) (c .if1 .left)
+    let start : tie.Start = search in
+    let a = start .args in byte-beyond (a .s .now) (a .at + a .k) _ (c .before .place-after .ensures) (c .if1 .left)
 
 pub byte-at-spec : {M : Type 1} → statement M
 byte-at-spec = tie.close (tie.spec place-after-requires shared-slice-read-result returns returns-2)

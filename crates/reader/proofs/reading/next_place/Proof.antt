@@ -29,10 +29,17 @@ enum-known-next c = search needs
 
 returns : tie.Need-returns
 unfolding nextPlace
-returns c = ap (λ (f : Found). nextPlace f (c .before .before .before .before .before .args .at)) (sym (c .before .next .given .1) ∙ found-is _ _ (c .before .before .before .record-at .result) (c .before .before .before .record-at .ensures))
+returns c =
+    let start : tie.Start = search in
+    let at-record-at : tie.After-record-at = search in
+    ap (λ (f : Found). nextPlace f (start .args .at))
+    (sym (c .before .next .given .1) ∙ found-is _ _ (at-record-at .record-at .result) (at-record-at .record-at .ensures))
 
 returns-2 : tie.Need-returns-2
-returns-2 c = stays (c .before .record-at .result) (c .before .before .before .args .at) (c .match .keys2) ∙ ap (λ (f : Found). nextPlace f (c .before .before .before .args .at)) (found-is _ _ (c .before .record-at .result) (c .before .record-at .ensures))
+returns-2 c =
+    let start : tie.Start = search in
+    stays (c .before .record-at .result) (start .args .at) (c .match .keys2)
+    ∙ ap (λ (f : Found). nextPlace f (start .args .at)) (found-is _ _ (c .before .record-at .result) (c .before .record-at .ensures))
 
 pub next-place-spec : {M : Type 1} → statement M
 next-place-spec = tie.close (tie.spec record-at-requires enum-known-next returns returns-2)

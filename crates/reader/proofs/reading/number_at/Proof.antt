@@ -33,7 +33,8 @@ wide-requires c κs = search needs
 
 add-n : tie.Need-add-n Inv-loop μ-loop
 add-n c =
-    let l = c .before .before .before .loop in
+    let at-loop : tie.At-loop Inv-loop μ-loop = search in
+    let l = at-loop .loop in
     omega (arith, number-below (l .n) (l .i) (c .wide .result) (l .inv .1) (c .wide .ensures .1), bytes-below (l .i + 1) 8 (omega arith))
 
 add-i : tie.Need-add-i Inv-loop μ-loop
@@ -44,8 +45,10 @@ loop-less c = search needs
 
 loop-again : tie.Need-loop-again Inv-loop μ-loop
 loop-again c =
-    let l = c .before .before .before .loop in
-    let a = c .before .before .before .before .before .args in (
+    let at-loop : tie.At-loop Inv-loop μ-loop = search in
+    let start : tie.Start Inv-loop μ-loop = search in
+    let l = at-loop .loop in
+    let a = start .args in (
       number-more (a .s .now) (a .at) (a .from) (l .i) (l .n) (c .wide .result) (l .inv .0) (c .wide .ensures .0 ∙ c .before .byte-at .ensures),
       number-below (l .n) (l .i) (c .wide .result) (l .inv .1) (c .wide .ensures .1),
       omega arith,
@@ -53,9 +56,8 @@ loop-again c =
 
 returns : tie.Need-returns Inv-loop μ-loop
 returns c =
-    let l = c .before .loop in
-    let e : l .i ≡ c .before .before .before .args .k = omega arith in
-    (rw e at (l .inv .0), rw e at (l .inv .1))
+    let start : tie.Start Inv-loop μ-loop = search in
+    let l = c .before .loop in let e : l .i ≡ start .args .k = omega arith in (rw e at (l .inv .0), rw e at (l .inv .1))
 
 pub number-at-spec : {M : Type 1} → statement M
 number-at-spec =

@@ -31,13 +31,23 @@ loop-less : tie.Need-loop-less Inv-loop μ-loop
 loop-less c = search needs
 
 loop-again : tie.Need-loop-again Inv-loop μ-loop
-loop-again c = let l = c .before .before in (omega arith, copied-more (λ (x : ℕ). x) (l .before .args .from .now) (l .before .args .out .now) (l .loop .i) (l .loop .out) 0 (omega arith) (omega arith) (l .loop .inv .1), search needs)
+loop-again c =
+    let l = c .before .before in (
+      omega arith,
+      copied-more (λ (x : ℕ). x) (l .before .args .from .now) (l .before .args .out .now) (l .loop .i) (l .loop .out) 0 (omega arith) (omega arith)
+          (l .loop .inv .1),
+      search needs,
+    )
 
 same-length : tie.Need-same-length Inv-loop μ-loop
 same-length c = search needs
 
 returns : tie.Need-returns Inv-loop μ-loop
-returns c = let l = c .before in copied-all (λ (x : ℕ). x) (l .before .args .from .now) (l .before .args .out .now) (l .loop .i) (l .loop .out) (omega arith) (omega arith) (l .loop .inv .1) ∙ map-id (l .before .args .from .now)
+returns c =
+    let l = c .before in
+    copied-all (λ (x : ℕ). x) (l .before .args .from .now) (l .before .args .out .now) (l .loop .i) (l .loop .out) (omega arith) (omega arith)
+    (l .loop .inv .1)
+    ∙ map-id (l .before .args .from .now)
 
 pub copy-spec : {M : Type 1} → statement M
 copy-spec =

@@ -24,7 +24,9 @@ add-result : tie.Need-add-result
 add-result c = record { fits = omega (arith, c .shared-slice-known2 .given 3) }
 
 returns : tie.Need-returns
-returns c = let g = c .shared-slice-known2 .given in value-is (c .before .before .args .m .now) (c .before .before .pre) (omega (arith, g 2)) (omega (arith, g 3))
+returns c =
+    let g = c .shared-slice-known2 .given in
+    value-is (c .before .before .args .m .now) (c .before .before .pre) (omega (arith, g 2)) (omega (arith, g 3))
 
 pub value-in-spec : {M : Type 1} → statement M
 value-in-spec =

@@ -46,8 +46,11 @@ loop-less c = search needs
 
 loop-again : tie.Need-loop-again Inv-loop μ-loop
 loop-again c = let p = c .before .before .before .before .before .args .p in
-    let e : length (p .list) ≡ 128 = search (needs, length-mapped) in
-    (search needs, mapped-more _ (p .list) _ _ _ (omega arith) (c .before .before .before .loop .inv .1) _ (c .withdraw .ensures), c .before .before .before .loop .inv .2)
+    let e : length (p .list) ≡ 128 = search (needs, length-mapped) in (
+      search needs,
+      mapped-more _ (p .list) _ _ _ (omega arith) (c .before .before .before .loop .inv .1) _ (c .withdraw .ensures),
+      c .before .before .before .loop .inv .2,
+    )
 
 returns : tie.Need-returns Inv-loop μ-loop
 returns c = let p = c .before .before .before .args .p in

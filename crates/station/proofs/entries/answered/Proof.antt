@@ -17,10 +17,18 @@ entry-of-requires : tie.Need-entry-of-requires
 entry-of-requires c κs = search needs
 
 mul-f : tie.Need-mul-f
-mul-f c = let s = c .before .before .before in let p = s .args .p in let e : length (p .list) ≡ 128 = search (needs, length-mapped) in record { fits = omega (arith, length-take (p .n) (p .list), s .pre) }
+mul-f c =
+    let s = c .before .before .before in
+    let p = s .args .p in
+    let e : length (p .list) ≡ 128 = search (needs, length-mapped) in
+    record { fits = omega (arith, length-take (p .n) (p .list), s .pre) }
 
 element-set-from-f : tie.Need-element-set-from-f
-element-set-from-f c = let s = c .before .before .before in let p = s .args .p in let e : length (p .list) ≡ 128 = search (needs, length-mapped) in omega (arith, length-take (p .n) (p .list), s .pre)
+element-set-from-f c =
+    let s = c .before .before .before in
+    let p = s .args .p in
+    let e : length (p .list) ≡ 128 = search (needs, length-mapped) in
+    omega (arith, length-take (p .n) (p .list), s .pre)
 
 returns : tie.Need-returns
 returns c = let s = c .before .before .before in

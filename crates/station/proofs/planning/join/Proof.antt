@@ -50,8 +50,12 @@ loop-again : tie.Need-loop-again Inv-loop μ-loop
 loop-again c = let l = c .before .before .before in
     let s = c .before .before .before .before .before .before in
     let w = s .args .t2 in
-    let e : length (w .list) ≡ 128 = l .loop .inv .2 in
-    (search needs, rw (c .ask-for .ensures) (copied-more (askFor (s .args .t)) (w .list) _ (l .loop .i) _ _ (omega arith) (simp length-replicate (omega arith)) (l .loop .inv .1)), e)
+    let e : length (w .list) ≡ 128 = l .loop .inv .2 in (
+      search needs,
+      rw (c .ask-for .ensures)
+          (copied-more (askFor (s .args .t)) (w .list) _ (l .loop .i) _ _ (omega arith) (simp length-replicate (omega arith)) (l .loop .inv .1)),
+      e,
+    )
 
 returns : tie.Need-returns Inv-loop μ-loop
 returns c = let l = c .before in

@@ -30,7 +30,14 @@ selective-ranged-requires c κs = search needs
 returns-2 : tie.Need-returns-2
 unfolding requestRanged
 returns-2 c =
-    rw (le-leb _ _ (c .before .before .before .before .before .before .if1 .left), ← c .before .before .before .before .before .byte .ensures, ← c .before .before .before .before .byte2 .ensures, ← c .before .before .before .byte3 .ensures, ← c .before .before .byte4 .ensures, ← c .before .wide .ensures)
+    rw (
+      le-leb _ _ (c .before .before .before .before .before .before .if1 .left),
+      ← c .before .before .before .before .before .byte .ensures,
+      ← c .before .before .before .before .byte2 .ensures,
+      ← c .before .before .before .byte3 .ensures,
+      ← c .before .before .byte4 .ensures,
+      ← c .before .wide .ensures,
+    )
     (c .selective-ranged .ensures)
 
 pub request-ranged-spec : {M : Type 1} → statement M

@@ -24,12 +24,24 @@ enum-told c = search needs
 
 returns : tie.Need-returns
 unfolding expected
-returns c = let e : c .before .before .before .drawn .result ≡ drawn (c .before .before .before .before .before .before .args .q .uf) (c .before .before .before .before .before .before .args .q .rr) = drawn-is _ _ (c .before .before .before .drawn .result) (c .before .before .before .drawn .ensures) ∙ (rw (c .before .before .before .before .before .byte .ensures, c .before .before .before .before .byte2 .ensures)) in
+returns c =
+    let at-drawn : tie.After-drawn = search in
+    let start : tie.Start = search in
+    let at-byte : tie.After-byte = search in
+    let at-byte2 : tie.After-byte2 = search in
+    let e : at-drawn .drawn .result ≡ drawn (start .args .q .uf) (start .args .q .rr) =
+    drawn-is _ _ (at-drawn .drawn .result) (at-drawn .drawn .ensures) ∙ (rw (at-byte .byte .ensures, at-byte2 .byte2 .ensures)) in
     ap formatIn (sym (c .before .d .given .1) ∙ e)
 
 returns-2 : tie.Need-returns-2
 unfolding expected
-returns-2 c = let e : c .before .before .drawn .result ≡ drawn (c .before .before .before .before .before .args .q .uf) (c .before .before .before .before .before .args .q .rr) = drawn-is _ _ (c .before .before .drawn .result) (c .before .before .drawn .ensures) ∙ (rw (c .before .before .before .before .byte .ensures, c .before .before .before .byte2 .ensures)) in
+returns-2 c =
+    let at-drawn : tie.After-drawn = search in
+    let start : tie.Start = search in
+    let at-byte : tie.After-byte = search in
+    let at-byte2 : tie.After-byte2 = search in
+    let e : at-drawn .drawn .result ≡ drawn (start .args .q .uf) (start .args .q .rr) =
+    drawn-is _ _ (at-drawn .drawn .result) (at-drawn .drawn .ensures) ∙ (rw (at-byte .byte .ensures, at-byte2 .byte2 .ensures)) in
     ap formatIn (sym (c .enum-told .given .1) ∙ e)
 
 pub expected-spec : {M : Type 1} → statement M

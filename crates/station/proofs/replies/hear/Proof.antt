@@ -27,7 +27,14 @@ put-requires c κs = sym (c .before .before .before .before .in-list .ensures) �
 
 returns-2 : tie.Need-returns-2
 unfolding targetsHeard
-returns-2 c = simp (sym (c .before .before .before .before .before .in-list .ensures) ∙ not-false _ (c .before .before .before .before .if1 .left), c .put .ensures, c .before .said-in .ensures, c .before .before .expected .ensures, c .before .before .before .target-at .ensures)
+returns-2 c =
+    simp (
+      sym (c .before .before .before .before .before .in-list .ensures) ∙ not-false _ (c .before .before .before .before .if1 .left),
+      c .put .ensures,
+      c .before .said-in .ensures,
+      c .before .before .expected .ensures,
+      c .before .before .before .target-at .ensures,
+    )
 
 pub hear-spec : {M : Type 1} → statement M
 hear-spec =

@@ -65,8 +65,13 @@ take-reply-spec =
     (c .refused3 .ensures))
     (λ c κs.
     let k = c .before .before in
-    let e = counted k in
-    (sizes (right (e .before)), (listed e, entry-window (came k .args .s) (reply k) (k .judge-entry .result) (sizes (right (e .before))) (listed e) (number k) (c .before .if3 .left))))
+    let e = counted k in (
+      sizes (right (e .before)),
+      (
+        listed e,
+        entry-window (came k .args .s) (reply k) (k .judge-entry .result) (sizes (right (e .before))) (listed e) (number k) (c .before .if3 .left),
+      ),
+    ))
     (λ c. search needs)
     (λ c.
     let t = c .before .before in

@@ -22,8 +22,10 @@ returns : tie.Need-returns
 returns c = let s = c .before .before in
     let w = c .before .wide .ensures in
     let l : s .args .s < 2 ^ 31 = omega (arith, before-end (s .args .e) (s .args .s) (s .pre)) in
-    let m : s .args .e .start + delay < 2 ^ 31 = omega arith in
-    (minus-kept (s .args .s) (s .args .e .start + delay) l m (c .signed .result) (c .signed .ensures ∙ (rw w)), minus-holds (s .args .s) (s .args .e .start + delay) l m)
+    let m : s .args .e .start + delay < 2 ^ 31 = omega arith in (
+      minus-kept (s .args .s) (s .args .e .start + delay) l m (c .signed .result) (c .signed .ensures ∙ (rw w)),
+      minus-holds (s .args .s) (s .args .e .start + delay) l m,
+    )
 
 pub delay-spec : {M : Type 1} → statement M
 delay-spec = tie.close (tie.spec wide-requires add-signed signed-requires returns)

@@ -35,7 +35,8 @@ returns c =
     let fits = c .before .before .before .before .before .before .before .before .before .before .before .before .before .before .before .before .before
     .before .before .before .before .before .before .before .before .fits .delay in
     let e = c .before .before .before .before .before .before .put-signed .ensures in
-    within-then (c .before .before .before .before .before .before .before .before .before .before .before .before .before .before .before .before .before .before .before .before .before .before .put-number .ensures)
+    within-then
+    (c .before .before .before .before .before .before .before .before .before .before .before .before .before .before .before .before .before .before .before .before .before .before .put-number .ensures)
     (within-then (c .before .before .before .before .before .before .before .before .before .before .before .before .before .before .before .before .before .before .put-number2 .ensures)
     (within-then (c .before .before .before .before .before .before .before .before .before .before .before .before .before .before .put-number3 .ensures)
     (within-then (c .before .before .before .before .before .before .before .before .before .before .put-number4 .ensures)

@@ -55,7 +55,10 @@ loop-again c =
     let l = c .before .before .before .before .before .before in
     let a = l .before .before .before .before .args in
     let p = c .before .before .put-entry .ensures in (
-      still-next (l .loop .inv .0) (entries-more (a .n) (a .t3) (l .loop .i) _ (omega (arith, l .before .live .ensures .0, l .loop .inv .3, c .before .before .before .before .before .loop-test .taken))) (p .put),
+      still-next (l .loop .inv .0)
+          (entries-more (a .n) (a .t3) (l .loop .i) _
+          (omega (arith, l .before .live .ensures .0, l .loop .inv .3, c .before .before .before .before .before .loop-test .taken)))
+          (p .put),
       omega arith,
       put-inside (p .put),
       l .loop .inv .3,
@@ -70,7 +73,12 @@ returns-2 : tie.Need-returns-2 Inv-loop μ-loop
 returns-2 c =
     let l = c .before in
     let a = l .before .before .before .before .args in
-    record { put = still-end (l .loop .inv .0) (entries-none (a .n) (a .t3) (l .loop .i) (omega (arith, l .before .live .ensures .0, l .loop .inv .3, c .loop-test .left))) (l .loop .inv .2); short = omega (arith, l .loop .inv .4, l .loop .inv .5) }
+    record {
+      put =
+          still-end (l .loop .inv .0)
+          (entries-none (a .n) (a .t3) (l .loop .i) (omega (arith, l .before .live .ensures .0, l .loop .inv .3, c .loop-test .left))) (l .loop .inv .2);
+      short = omega (arith, l .loop .inv .4, l .loop .inv .5);
+    }
 
 pub put-entries-spec : {M : Type 1} → statement M
 put-entries-spec =

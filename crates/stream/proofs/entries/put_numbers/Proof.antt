@@ -28,7 +28,15 @@ same-length c = search needs
 
 returns : tie.Need-returns
 unfolding line
-returns c = within-then (c .before .before .before .before .before .before .before .before .before .before .before .before .before .before .before .before .before .before .before .before .before .before .put-number .ensures) (within-then (c .before .before .before .before .before .before .before .before .before .before .before .before .before .before .before .before .before .before .put-number2 .ensures) (within-then (c .before .before .before .before .before .before .before .before .before .before .before .before .before .before .put-number3 .ensures) (within-then (c .before .before .before .before .before .before .before .before .before .before .put-number4 .ensures) (within-then (c .before .before .before .before .before .before .put-number5 .ensures) (c .before .before .put-number6 .ensures)))))
+returns c =
+    within-then
+    (c .before .before .before .before .before .before .before .before .before .before .before .before .before .before .before .before .before .before .before .before .before .before .put-number .ensures)
+    (within-then
+    (c .before .before .before .before .before .before .before .before .before .before .before .before .before .before .before .before .before .before .put-number2 .ensures)
+    (within-then
+    (c .before .before .before .before .before .before .before .before .before .before .before .before .before .before .put-number3 .ensures)
+    (within-then (c .before .before .before .before .before .before .before .before .before .before .put-number4 .ensures)
+    (within-then (c .before .before .before .before .before .before .put-number5 .ensures) (c .before .before .put-number6 .ensures)))))
 
 pub put-numbers-spec : {M : Type 1} → statement M
 put-numbers-spec =

@@ -10,7 +10,15 @@ use Rattle.stream.proofs.obey.obey.Tie as tie
 rest : (c : tie.At-match-rest) → Rest (c .before .before .before .args .kind)
 rest c =
     let r = c .match .rest in
-    record { not-1 = r .0 .0 .0 .0 .0 .0 .1; not-2 = r .0 .0 .0 .0 .0 .1; not-3 = r .0 .0 .0 .0 .1; not-4 = r .0 .0 .0 .1; not-5 = r .0 .0 .1; not-8 = r .0 .1; not-9 = r .1 }
+    record {
+      not-1 = r .0 .0 .0 .0 .0 .0 .1;
+      not-2 = r .0 .0 .0 .0 .0 .1;
+      not-3 = r .0 .0 .0 .0 .1;
+      not-4 = r .0 .0 .0 .1;
+      not-5 = r .0 .0 .1;
+      not-8 = r .0 .1;
+      not-9 = r .1;
+    }
 
 obey-setup-requires : tie.Need-obey-setup-requires
 obey-setup-requires c κs = search needs

@@ -21,7 +21,13 @@ same-length : tie.Need-same-length
 same-length c = search needs
 
 returns : tie.Need-returns
-returns c = did-of (ap (answered _ _) (c .before .before .before .before .add-target .ensures ∙ ap (λ (e : Edges). newTarget (c .before .before .before .before .before .before .before .before .args .st) (e .address) (e .near) (e .far)) (c .before .before .before .before .before .edges-at .ensures))) (c .before .before .put-answered .ensures)
+returns c =
+    did-of
+    (ap (answered _ _)
+    (c .before .before .before .before .add-target .ensures
+    ∙ ap (λ (e : Edges). newTarget (c .before .before .before .before .before .before .before .before .args .st) (e .address) (e .near) (e .far))
+    (c .before .before .before .before .before .edges-at .ensures)))
+    (c .before .before .put-answered .ensures)
 
 pub obey-new-target-spec : {M : Type 1} → statement M
 obey-new-target-spec =

@@ -26,8 +26,12 @@ same-length c = search needs
 
 returns : tie.Need-returns
 returns c =
-    did-of (ap (plannedTo _) (c .before .before .before .before .before .before .before .before .before .before .plan-period .ensures ∙ ap (nextPlan _) (c .before .before .before .before .before .before .before .before .before .before .before .tag-at .ensures)))
-    (did-lines 9252 (omega arith) refl refl (within-then (c .before .before .before .before .before .before .before .before .put-answer .ensures) (c .before .before .put-entries .ensures)))
+    did-of
+    (ap (plannedTo _)
+    (c .before .before .before .before .before .before .before .before .before .before .plan-period .ensures
+    ∙ ap (nextPlan _) (c .before .before .before .before .before .before .before .before .before .before .before .tag-at .ensures)))
+    (did-lines 9252 (omega arith) refl refl
+    (within-then (c .before .before .before .before .before .before .before .before .put-answer .ensures) (c .before .before .put-entries .ensures)))
 
 pub obey-plan-spec : {M : Type 1} → statement M
 obey-plan-spec =

@@ -20,7 +20,11 @@ same-length : tie.Need-same-length
 same-length c = search needs
 
 returns : tie.Need-returns
-returns c = did-of (ap (answered _ _) (c .before .before .before .before .remove-target .ensures ∙ ap (removed _) (c .before .before .before .before .before .address-at .ensures))) (c .before .before .put-answered .ensures)
+returns c =
+    did-of
+    (ap (answered _ _)
+    (c .before .before .before .before .remove-target .ensures ∙ ap (removed _) (c .before .before .before .before .before .address-at .ensures)))
+    (c .before .before .put-answered .ensures)
 
 pub obey-remove-spec : {M : Type 1} → statement M
 obey-remove-spec =

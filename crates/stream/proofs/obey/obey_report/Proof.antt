@@ -23,8 +23,12 @@ same-length c = search needs
 
 returns : tie.Need-returns
 returns c =
-    did-of (ap (reportedTo _ _) (c .before .before .before .before .before .before .report-on .ensures ∙ ap (reported _) (c .before .before .before .before .before .before .before .address-at .ensures)))
-    (did-lines 36 (omega arith) refl (report-refused _ (c .before .before .before .before .before .before .before .before .before .before .args .st) _ (c .if1 .taken)) (c .before .before .before .before .put-answer .ensures))
+    let at-report-on : tie.After-report-on = search in
+    let at-address-at : tie.After-address-at = search in
+    let start : tie.Start = search in
+    let at-put-answer : tie.After-put-answer = search in
+    did-of (ap (reportedTo _ _) (at-report-on .report-on .ensures ∙ ap (reported _) (at-address-at .address-at .ensures)))
+    (did-lines 36 (omega arith) refl (report-refused _ (start .args .st) _ (c .if1 .taken)) (at-put-answer .put-answer .ensures))
 
 put-report-requires : tie.Need-put-report-requires
 put-report-requires c κs = search needs
@@ -34,8 +38,15 @@ same-length-2 c = search needs
 
 returns-2 : tie.Need-returns-2
 returns-2 c =
-    did-of (ap (reportedTo _ _) (c .before .before .before .before .before .before .before .before .before .before .report-on .ensures ∙ ap (reported _) (c .before .before .before .before .before .before .before .before .before .before .before .address-at .ensures)))
-    (did-lines 84 (omega arith) refl (report-taken _ (c .before .before .before .before .before .before .before .before .before .before .before .before .before .before .args .st) _ (c .before .before .before .before .if1 .left)) (within-then (c .before .before .before .before .before .before .before .before .put-answer .ensures) (c .before .before .put-report .ensures)))
+    let at-report-on : tie.After-report-on = search in
+    let at-address-at : tie.After-address-at = search in
+    let start : tie.Start = search in
+    let else1 : tie.Else1 = search in
+    let at-put-answer : tie.After-put-answer = search in
+    let at-put-report : tie.After-put-report = search in
+    did-of (ap (reportedTo _ _) (at-report-on .report-on .ensures ∙ ap (reported _) (at-address-at .address-at .ensures)))
+    (did-lines 84 (omega arith) refl (report-taken _ (start .args .st) _ (else1 .if1 .left))
+    (within-then (at-put-answer .put-answer .ensures) (at-put-report .put-report .ensures)))
 
 pub obey-report-spec : {M : Type 1} → statement M
 obey-report-spec =

@@ -20,7 +20,11 @@ same-length : tie.Need-same-length
 same-length c = search needs
 
 returns : tie.Need-returns
-returns c = did-of (ap (answered _ _) (c .before .before .before .before .take-request .ensures ∙ ap (requested _) (c .before .before .before .before .before .request-at .ensures))) (c .before .before .put-answered .ensures)
+returns c =
+    did-of
+    (ap (answered _ _)
+    (c .before .before .before .before .take-request .ensures ∙ ap (requested _) (c .before .before .before .before .before .request-at .ensures)))
+    (c .before .before .put-answered .ensures)
 
 pub obey-request-spec : {M : Type 1} → statement M
 obey-request-spec =

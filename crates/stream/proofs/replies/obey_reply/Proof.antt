@@ -15,7 +15,9 @@ use Rattle.stream.proofs.replies.obey_reply.Tie as tie
 abbrev read : tie.After-message-length → tie.After-reply-at
 read c = c .before .before
 
-parts : (c : tie.After-reply-at) → (c .reply-at .result .message ≤ c .reply-at .result .marks) × (c .reply-at .result .marks ≤ c .reply-at .result .end) × (c .reply-at .result .end ≤ length (c .before .before .before .args .s .now))
+parts : (c : tie.After-reply-at)
+    → (c .reply-at .result .message ≤ c .reply-at .result .marks) × (c .reply-at .result .marks ≤ c .reply-at .result .end)
+    × (c .reply-at .result .end ≤ length (c .before .before .before .args .s .now))
 parts c = in-order _ _ _ (c .reply-at .ensures)
 
 reply-at-requires : tie.Need-reply-at-requires
@@ -70,7 +72,10 @@ returns c =
     did-of
     (ap (repliedTo _ _)
     (x .take-reply .ensures
-    ∙ ap (λ (q : Reply). replied (s .args .st) (received (q .entry) (q .tag) (partOf (s .args .s .now) (q .message) (q .marks)) (partOf (s .args .s .now) (q .marks) (q .end)) (take (m .message-length .result) (replicate 14 0)))) (read m .reply-at .ensures)
+    ∙ ap (λ (q : Reply). replied (s .args .st)
+    (received (q .entry) (q .tag) (partOf (s .args .s .now) (q .message) (q .marks)) (partOf (s .args .s .now) (q .marks) (q .end))
+    (take (m .message-length .result) (replicate 14 0))))
+    (read m .reply-at .ensures)
     ∙ ap (replyTo (s .args .s .now) (s .args .kind) (s .args .b) (s .args .st)) lent))
     (p .put-replied .ensures)
 

@@ -42,25 +42,37 @@ same-length : tie.Need-same-length
 same-length c = search needs
 
 returns : tie.Need-returns
-returns c = let x = c .before .before in let f = x .before .before in step-end _ _ _ _ (stands (f .before .before) ∙ f .enum-told .given .1) (x .put-nothing .ensures)
+returns c =
+    let x = c .before .before in
+    let f = x .before .before in
+    step-end _ _ _ _ (stands (f .before .before) ∙ f .enum-told .given .1) (x .put-nothing .ensures)
 
 same-length-2 : tie.Need-same-length-2
 same-length-2 c = search needs
 
 returns-2 : tie.Need-returns-2
-returns-2 c = let x = c .before .before in let f = x .before .before .before in step-unknown _ _ _ _ (stands (f .before .before) ∙ f .kind .given .1) (x .put-answer .ensures)
+returns-2 c =
+    let x = c .before .before in
+    let f = x .before .before .before in
+    step-unknown _ _ _ _ (stands (f .before .before) ∙ f .kind .given .1) (x .put-answer .ensures)
 
 same-length-3 : tie.Need-same-length-3
 same-length-3 c = search needs
 
 returns-3 : tie.Need-returns-3
-returns-3 c = let x = c .before .before in let f = x .before .before .before in step-cut _ _ _ _ (stands (f .before .before) ∙ f .kind2 .given .1) (x .put-answer2 .ensures)
+returns-3 c =
+    let x = c .before .before in
+    let f = x .before .before .before in
+    step-cut _ _ _ _ (stands (f .before .before) ∙ f .kind2 .given .1) (x .put-answer2 .ensures)
 
 same-length-4 : tie.Need-same-length-4
 same-length-4 c = search needs
 
 returns-4 : tie.Need-returns-4
-returns-4 c = let x = c .before .before .before in let f = x .before .before .before in step-whole _ _ _ _ (stands (f .before .before) ∙ f .kind3 .given .1) (x .obey .ensures)
+returns-4 c =
+    let x = c .before .before .before in
+    let f = x .before .before .before in
+    step-whole _ _ _ _ (stands (f .before .before) ∙ f .kind3 .given .1) (x .obey .ensures)
 
 pub put-step-spec : {M : Type 1} → statement M
 put-step-spec =

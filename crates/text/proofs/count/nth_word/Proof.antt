@@ -33,9 +33,8 @@ loop-again c = let l = c .before .before .loop in (come-next _ (l .i) (l .w) _ (
 
 returns : tie.Need-returns Inv-loop μ-loop
 returns c =
-    let l = c .before .loop in
-    let e : l .i ≡ c .before .before .before .before .args .k = omega (arith, l .inv .1, c .loop-test .left) in
-    come-to _ _ _ (rw e at (l .inv .0))
+    let start : tie.Start Inv-loop μ-loop = search in
+    let l = c .before .loop in let e : l .i ≡ start .args .k = omega (arith, l .inv .1, c .loop-test .left) in come-to _ _ _ (rw e at (l .inv .0))
 
 pub nth-word-spec : {M : Type 1} → statement M
 nth-word-spec =

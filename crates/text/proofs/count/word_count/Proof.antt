@@ -27,11 +27,13 @@ word-requires-2 c κs = search needs
 
 loop-less : tie.Need-loop-less Inv-loop μ-loop
 loop-less c =
-    let l = c .before .before .before .loop in
-    goes-on _ (l .n) (l .w) (l .inv) (c .word2 .result) (c .before .if1 .taken) (c .word2 .ensures)
+    let at-loop : tie.At-loop Inv-loop μ-loop = search in
+    let l = at-loop .loop in goes-on _ (l .n) (l .w) (l .inv) (c .word2 .result) (c .before .if1 .taken) (c .word2 .ensures)
 
 loop-again : tie.Need-loop-again Inv-loop μ-loop
-loop-again c = let l = c .before .before .before .loop in count-next _ (l .n) (l .w) (l .inv) (c .word2 .result) (c .before .if1 .taken) (c .word2 .ensures)
+loop-again c =
+    let at-loop : tie.At-loop Inv-loop μ-loop = search in
+    let l = at-loop .loop in count-next _ (l .n) (l .w) (l .inv) (c .word2 .result) (c .before .if1 .taken) (c .word2 .ensures)
 
 returns : tie.Need-returns Inv-loop μ-loop
 returns c = let l = c .before .before .loop in count-end _ (l .n) (l .w) (l .inv) (c .if1 .left)

@@ -22,8 +22,8 @@ returns-2 c =
 returns-3 : tie.Need-returns-3
 unfolding hexValue isDigit
 returns-3 c =
-    let b = c .before .before .before .args .b in
-    rw (over 48 57 b (omega arith) (omega arith), under 65 70 b (omega arith), under 97 102 b (omega arith))
+    let start : tie.Start = search in
+    let b = start .args .b in rw (over 48 57 b (omega arith) (omega arith), under 65 70 b (omega arith), under 97 102 b (omega arith))
 
 sub-result : tie.Need-sub-result
 sub-result c = search needs
@@ -31,14 +31,14 @@ sub-result c = search needs
 returns-4 : tie.Need-returns-4
 unfolding hexValue isDigit
 returns-4 c =
-    let b = c .before .before .before .before .args .b in
-    rw (over 48 57 b (omega arith) (omega arith), in-range 65 70 b (omega arith) (omega arith))
+    let start : tie.Start = search in
+    let b = start .args .b in rw (over 48 57 b (omega arith) (omega arith), in-range 65 70 b (omega arith) (omega arith))
 
 returns-5 : tie.Need-returns-5
 unfolding hexValue isDigit
 returns-5 c =
-    let b = c .before .before .before .before .before .args .b in
-    rw (over 48 57 b (omega arith) (omega arith), over 65 70 b (omega arith) (omega arith), under 97 102 b (omega arith))
+    let start : tie.Start = search in
+    let b = start .args .b in rw (over 48 57 b (omega arith) (omega arith), over 65 70 b (omega arith) (omega arith), under 97 102 b (omega arith))
 
 sub-result-2 : tie.Need-sub-result-2
 sub-result-2 c = search needs
@@ -46,14 +46,15 @@ sub-result-2 c = search needs
 returns-6 : tie.Need-returns-6
 unfolding hexValue isDigit
 returns-6 c =
-    let b = c .before .before .before .before .before .before .args .b in
+    let start : tie.Start = search in
+    let b = start .args .b in
     rw (over 48 57 b (omega arith) (omega arith), over 65 70 b (omega arith) (omega arith), in-range 97 102 b (omega arith) (omega arith))
 
 returns-7 : tie.Need-returns-7
 unfolding hexValue isDigit
 returns-7 c =
-    let b = c .before .before .before .before .before .before .args .b in
-    rw (over 48 57 b (omega arith) (omega arith), over 65 70 b (omega arith) (omega arith), over 97 102 b (omega arith) (omega arith))
+    let start : tie.Start = search in
+    let b = start .args .b in rw (over 48 57 b (omega arith) (omega arith), over 65 70 b (omega arith) (omega arith), over 97 102 b (omega arith) (omega arith))
 
 pub hex-value-spec : {M : Type 1} → statement M
 hex-value-spec =

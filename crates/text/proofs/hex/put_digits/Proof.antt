@@ -22,9 +22,10 @@ same-length c = search needs
 
 returns : tie.Need-returns
 returns c =
-    let made = c .before .before .before .before .before .hex .ensures in
-    put-of (hex-of-kit _ _ _ _ (c .before .before .before .before .before .before .before .before .pre) (made .1 .0) (made .1 .1))
-    (c .before .before .put-upper .ensures)
+    let at-hex : tie.After-hex = search in
+    let start : tie.Start = search in
+    let at-put-upper : tie.After-put-upper = search in
+    let made = at-hex .hex .ensures in put-of (hex-of-kit _ _ _ _ (start .pre) (made .1 .0) (made .1 .1)) (at-put-upper .put-upper .ensures)
 
 pub put-digits-spec : {M : Type 1} → statement M
 put-digits-spec =

@@ -12,7 +12,10 @@ same-length : tie.Need-same-length
 same-length c = search needs
 
 returns : tie.Need-returns
-returns c = put-of (hex-low (c .before .before .before .before .before .args .n)) (c .before .before .put-digits .ensures)
+returns c =
+    let start : tie.Start = search in
+    let at-put-digits : tie.After-put-digits = search in
+    put-of (hex-low (start .args .n)) (at-put-digits .put-digits .ensures)
 
 pub put-hex6-spec : {M : Type 1} → statement M
 put-hex6-spec = tie.close (tie.spec put-digits-requires same-length returns)

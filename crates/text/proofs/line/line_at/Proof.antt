@@ -8,10 +8,14 @@ line-end-requires : tie.Need-line-end-requires
 line-end-requires c κs = search needs
 
 returns : tie.Need-returns
-returns c = let e = c .before .line-end .ensures in held-none (c .before .before .before .args .s .now) (c .before .before .before .args .at) (e .is) (c .if1 .taken)
+returns c =
+    let start : tie.Start = search in
+    let e = c .before .line-end .ensures in held-none (start .args .s .now) (start .args .at) (e .is) (c .if1 .taken)
 
 returns-2 : tie.Need-returns-2
-returns-2 c = let e = c .before .line-end .ensures in held-from (c .before .before .before .args .s .now) (c .before .before .before .args .at) (e .is) (c .if1 .left)
+returns-2 c =
+    let start : tie.Start = search in
+    let e = c .before .line-end .ensures in held-from (start .args .s .now) (start .args .at) (e .is) (c .if1 .left)
 
 pub line-at-spec : {M : Type 1} → statement M
 line-at-spec = tie.close (tie.spec line-end-requires returns returns-2)

@@ -24,9 +24,11 @@ shared-slice-read-if1 c = search needs
 returns : tie.Need-returns Inv-loop μ-loop
 unfolding lineEnd
 returns c =
-    let s = c .before .before .before .before .args .s .now in
-    let i = c .before .before .before .loop .i in
-    line-to _ _ (sym (run-stop inLine s i (c .before .before .loop-test .taken) (line-stops _ (c .if1 .taken))) ∙ c .before .before .before .loop .inv)
+    let start : tie.Start Inv-loop μ-loop = search in
+    let at-loop : tie.At-loop Inv-loop μ-loop = search in
+    let in-loop : tie.In-loop Inv-loop μ-loop = search in
+    let s = start .args .s .now in
+    let i = at-loop .loop .i in line-to _ _ (sym (run-stop inLine s i (in-loop .loop-test .taken) (line-stops _ (c .if1 .taken))) ∙ at-loop .loop .inv)
 
 add-i : tie.Need-add-i Inv-loop μ-loop
 add-i c = search needs
@@ -36,9 +38,10 @@ loop-less c = search needs
 
 loop-again : tie.Need-loop-again Inv-loop μ-loop
 loop-again c =
-    let s = c .before .before .before .before .args .s .now in
-    let i = c .before .before .before .loop .i in
-    run-more inLine s i (c .before .before .loop-test .taken) (line-goes _ (c .if1 .left)) ∙ c .before .before .before .loop .inv
+    let start : tie.Start Inv-loop μ-loop = search in
+    let at-loop : tie.At-loop Inv-loop μ-loop = search in
+    let in-loop : tie.In-loop Inv-loop μ-loop = search in
+    let s = start .args .s .now in let i = at-loop .loop .i in run-more inLine s i (in-loop .loop-test .taken) (line-goes _ (c .if1 .left)) ∙ at-loop .loop .inv
 
 returns-2 : tie.Need-returns-2 Inv-loop μ-loop
 unfolding lineEnd

@@ -23,8 +23,9 @@ same-length c = search needs
 
 returns : tie.Need-returns
 returns c =
-    let made = c .before .before .before .before .before .decimal .ensures in
-    put-of (made .1 .1 ∙ decimal-of-kit _ _ (made .1 .0)) (c .before .before .put-bytes .ensures)
+    let at-decimal : tie.After-decimal = search in
+    let at-put-bytes : tie.After-put-bytes = search in
+    let made = at-decimal .decimal .ensures in put-of (made .1 .1 ∙ decimal-of-kit _ _ (made .1 .0)) (at-put-bytes .put-bytes .ensures)
 
 pub put-decimal-spec : {M : Type 1} → statement M
 put-decimal-spec =

@@ -14,7 +14,10 @@ same-length : tie.Need-same-length
 same-length c = search needs
 
 returns : tie.Need-returns
-returns c = put-then (c .before .before .before .before .before .before .put-byte .ensures) (c .before .before .put-decimal .ensures)
+returns c =
+    let at-put-byte : tie.After-put-byte = search in
+    let at-put-decimal : tie.After-put-decimal = search in
+    put-then (at-put-byte .put-byte .ensures) (at-put-decimal .put-decimal .ensures)
 
 pub put-minus-spec : {M : Type 1} → statement M
 put-minus-spec = tie.close (tie.spec put-byte-requires put-decimal-requires same-length returns)

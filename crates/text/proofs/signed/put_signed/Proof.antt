@@ -29,18 +29,22 @@ sub-less : tie.Need-sub-less
 sub-less c = let n = below c in less-holds _ (c .before .before .fits .z) (n .0) (n .1) (n .2)
 
 cast-put-minus : tie.Need-cast-put-minus
-cast-put-minus c = let n = below (c .before) in unsigned _ (n .0) (less-is _ (c .before .before .before .fits .z) (n .0) (n .1) (n .2)) (n .2)
+cast-put-minus c =
+    let start : tie.Start = search in
+    let n = below (c .before) in unsigned _ (n .0) (less-is _ (start .fits .z) (n .0) (n .1) (n .2)) (n .2)
 
 add-put-minus : tie.Need-add-put-minus
 add-put-minus c =
-    let n = below (c .before) in
-    rw (less-is _ (c .before .before .before .fits .z) (n .0) (n .1) (n .2)) (record { fits = omega (arith, n .2) })
+    let start : tie.Start = search in
+    let n = below (c .before) in rw (less-is _ (start .fits .z) (n .0) (n .1) (n .2)) (record { fits = omega (arith, n .2) })
 
 put-minus-requires : tie.Need-put-minus-requires
 put-minus-requires c κs = search needs
 
 cast-put-decimal : tie.Need-cast-put-decimal
-cast-put-decimal c = let n = above (c .before) in unsigned _ (n .0) (toZ-ofZ w32 _ (c .before .before .before .fits .z) ∙ n .1) (n .2)
+cast-put-decimal c =
+    let start : tie.Start = search in
+    let n = above (c .before) in unsigned _ (n .0) (toZ-ofZ w32 _ (start .fits .z) ∙ n .1) (n .2)
 
 put-decimal-requires : tie.Need-put-decimal-requires
 put-decimal-requires c κs = search needs

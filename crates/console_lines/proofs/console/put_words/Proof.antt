@@ -1,12 +1,12 @@
--- `put_line` answers a line that has words, the first of which begins no comment.
+-- `put_words` answers a line that has words, the first of which begins no comment.
 use borrow.Author.Needs.{needs}
 use Rattle.console_plain.proofs.Texts.{word-of}
 use Rattle.console_lines.proofs.Lines.{lines, stays-silent}
-use Rattle.console_lines.proofs.console.put_line.Statement.{statement}
-use Rattle.console_lines.proofs.console.put_line.Tie as tie
+use Rattle.console_lines.proofs.console.put_words.Statement.{statement}
+use Rattle.console_lines.proofs.console.put_words.Tie as tie
 
-pub put-line-spec : {M : Type 1} → statement M
-put-line-spec =
+pub put-words-spec : {M : Type 1} → statement M
+put-words-spec =
     tie.close
     (tie.spec
     (λ c κs. search needs)

@@ -1,13 +1,13 @@
--- `put_line` lays what a line prints: nothing, its one code, or "- 2".
+-- `put_words` lays what a line prints: nothing, its one code, or "- 2".
 use borrow.Author.Needs.{needs}
 use Rattle.console_rules.specs.FeetLines.{numberText}
 use Rattle.feet_lines.proofs.Texts.{spans}
-use Rattle.feet_lines.proofs.lines.put_line.Statement.{statement}
-use Rattle.feet_lines.proofs.lines.put_line.Tie as tie
+use Rattle.feet_lines.proofs.lines.put_words.Statement.{statement}
+use Rattle.feet_lines.proofs.lines.put_words.Tie as tie
 
-pub put-line-spec : {M : Type 1} → statement M
+pub put-words-spec : {M : Type 1} → statement M
 unfolding numberText
-put-line-spec =
+put-words-spec =
     tie.close
     (tie.spec
     (λ c κs. search needs)
