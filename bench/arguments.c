@@ -1,4 +1,4 @@
-// The kit's C functions behind arguments and files, for programs that bench/native compiles for an Arm machine: the kit has them for x86-64.
+// The kit's C functions behind arguments, files and errors, for programs that bench/native compiles for an Arm machine: the kit has them for x86-64.
 #include <errno.h>
 #include <fcntl.h>
 #include <stddef.h>
@@ -23,5 +23,7 @@ ssize_t rattle_arg(size_t i, char *buf, size_t room) {
 }
 
 int rattle_open_to_read(const char *path) { return open(path, O_RDONLY | O_CLOEXEC); }
+
+int rattle_errno(void) { return errno; }
 
 void rattle_set_errno(int error) { errno = error; }

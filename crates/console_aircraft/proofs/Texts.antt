@@ -3,78 +3,50 @@ use Prim.Native.Nat.{ℕ, zero, suc, _+_, _≤_, _<_}
 use native.Mathlib.Numerals.{add-one}
 use native.Mathlib.Omega.{arith}
 use mathlib.Core.Path.{_≡_, refl, ap, _∙_}
-use mathlib.Core.Bool.{Bool, true, false, not}
 use mathlib.Core.List.{List, [], _∷_, _++_}
 use lib.Seq.{drop-cons, take-all}
 use lib.ListN.{length, getD, take, drop, drop-of-length-le, length-take}
-use borrow.Author.Tests.{eq-eqb, ne-eqb, not-true, not-false}
-use Rattle.lists.specs.Lists.{pick}
+use borrow.Author.Tests.{eq-eqb, ne-eqb}
 use Rattle.text_rules.specs.Put.{Put, decimal}
 use Rattle.text_rules.specs.Plain.{plain}
-use Rattle.text_rules.specs.Hex.{hexOf, bytesIn, HexRead}
-use Rattle.text_rules.specs.declared.answer.Number.{Number}
-use Rattle.text_rules.specs.declared.answer.Number.the-variants as number
-use Rattle.text_rules.specs.declared.answer.Hex.{Hex}
-use Rattle.text_rules.specs.declared.answer.Hex.the-variants as hex
+use Rattle.text_rules.specs.Hex.{hexOf}
 use Rattle.text_rules.proofs.Laid.{Still, still-next, still-end}
 use Rattle.text_rules.proofs.Decimal.{decimal-length}
 use Rattle.model_rules.specs.declared.state.Timer.{Timer}
 use Rattle.model_rules.specs.declared.state.Holder.{Holder}
 use Rattle.model_rules.specs.declared.state.Holder.the-variants.{Nobody, Held}
 use Rattle.model_rules.specs.declared.state.Made.{Made}
+use Rattle.model_rules.specs.declared.state.Queued.{Queued}
 use Rattle.model_rules.specs.declared.state.Took.{Took}
-use Rattle.console_plain.proofs.Texts.{held, no-bytes}
 use Rattle.console_rules.specs.declared.state.Aircraft.{Aircraft}
 use Rattle.console_rules.specs.declared.state.Shown.{Shown}
-use Rattle.console_rules.specs.Texts.{ofNumber, ofBytes, doneText, answerText}
-use Rattle.console_rules.specs.Aircraft.{Said, Showed, Brief, unreadSaid, numberSaid, saidWithNumber, saidWithBytes, whenMade}
-use Rattle.console_rules.specs.Aircraft.{flying, madeSaid, tookSaid, sentText, holderText, lockText, locksText, shownText}
+use Rattle.console_rules.specs.Texts.{numberAt, bytesAt, doneText, answerText, Brief}
+use Rattle.console_rules.specs.Aircraft.{Showed, numberSaid, flying, madeSaid, modelSaid, queuedSaid, queueSaid, tookSaid, sendSaid}
+use Rattle.console_rules.specs.Aircraft.{sentText, holderText, lockText, locksText, shownText}
+use Rattle.model_rules.specs.Calls as calls
 use Rattle.console_rules.proofs.ShortAircraft.{sent-fits}
 
-by-test : (a : Aircraft) (x : Said) {b : Bool} → a .made ≡ b → whenMade a x ≡ pick b x (unreadSaid a)
-unfolding whenMade
-by-test a x e = ap (λ (t : Bool). pick t x (unreadSaid a)) e
+-- ---- `search by-words` finds what a line says from what was read of its words
+module _ (a : Aircraft) (ws : List (List ℕ)) {l m : List ℕ} {s : Shown} where
+  pub model-line : {x : Made} {address ac id fs ca : ℕ} → Showed (madeSaid a x) l m s → x ≡ calls.making address ac id fs ca → address ≡ numberAt 1 ws
+      → ac ≡ numberAt 2 ws → id ≡ numberAt 3 ws → fs ≡ numberAt 4 ws → ca ≡ numberAt 5 ws → Showed (modelSaid a ws) l m s
+  unfolding modelSaid
+  model-line p e b c d f g = rw (e, b, c, d, f, g) at p
 
--- ---- `search said` follows a line as the code read it: what a call answered of a word, and what is shown then
+  pub queue-line : {q : Queued} {message : List ℕ} → Showed (queuedSaid q) l m s → q ≡ calls.queuing (a .transponder) message → message ≡ bytesAt 1 ws
+      → Showed (queueSaid a ws) l m s
+  unfolding queueSaid
+  queue-line p e b = rw (e, b) at p
 
-module _ {l m : List ℕ} {s : Shown} where
-  module _ (a : Aircraft) (f : ℕ → Said) {r w : Number} (e : r ≡ w) where
-    pub is-number : {n : ℕ} → r ≡ number.Is n → Showed (f n) l m s → Showed (saidWithNumber a w f) l m s
-    unfolding ofNumber
-    is-number h p = rw (← e, h) p
+  pub send-line : {k : Took} {time draw : ℕ} {frame : List ℕ} → Showed (tookSaid k) l m s → k ≡ calls.taking (a .transponder) time draw frame
+      → time ≡ numberAt 1 ws → draw ≡ numberAt 2 ws → frame ≡ bytesAt 3 ws → Showed (sendSaid a ws) l m s
+  unfolding sendSaid
+  send-line p e b c d = rw (e, b, c, d) at p
 
-    pub not-number : r ≡ number.Not → Showed (unreadSaid a) l m s → Showed (saidWithNumber a w f) l m s
-    unfolding ofNumber
-    not-number h p = rw (← e, h) p
-
-  module _ (a : Aircraft) (f : List ℕ → Said) {w b k : List ℕ} {x : Hex} (e : HexRead w k b x) where
-    pub is-bytes : {n : ℕ} → x ≡ hex.Bytes n → length k ≡ 32 → Showed (f (take n b)) l m s → Showed (saidWithBytes a (bytesIn w) f) l m s
-    unfolding ofBytes
-    is-bytes h z p = rw (held e z h .said) p
-
-    pub not-bytes : x ≡ hex.Not → Showed (unreadSaid a) l m s → Showed (saidWithBytes a (bytesIn w) f) l m s
-    unfolding ofBytes
-    not-bytes h p = rw (no-bytes e h) p
-
-  -- a line that needs an aircraft, before any was made and afterwards
-  module _ (a : Aircraft) (x : Said) where
-    pub when-unmade : not (a .made) ≡ true → Showed (unreadSaid a) l m s → Showed (whenMade a x) l m s
-    when-unmade h p = rw (by-test a x (not-true (a .made) h)) p
-
-    pub when-made : not (a .made) ≡ false → Showed x l m s → Showed (whenMade a x) l m s
-    when-made h p = rw (by-test a x (not-false (a .made) h)) p
-
-pub ruleset said = (is-number, not-number, is-bytes, not-bytes, when-unmade, when-made)
-
--- what is said of a value, by another name of the value
-pub showed-as : {A : Type 0} (t : A → Said) {x y : A} {l m : List ℕ} {s : Shown} → x ≡ y → Showed (t x) l m s → Showed (t y) l m s
-showed-as t e p = rw e at p
+pub ruleset by-words = (model-line, queue-line, send-line)
 
 -- ---- an aircraft that was made, or the one before
 module _ (a : Aircraft) {l m : List ℕ} {s : Shown} where
-  pub made-as : {x y : Made} → x ≡ y → Showed (madeSaid a x) l m s → Showed (madeSaid a y) l m s
-  made-as e p = rw e at p
-
   pub made-refused : (x : Made) → (x .number ≡ 0 → ⊥) → Showed (numberSaid (x .number) a) l m s → Showed (madeSaid a x) l m s
   unfolding madeSaid
   made-refused x h p = rw (ne-eqb (x .number) 0 h) p

@@ -1,15 +1,7 @@
 // The answers without a value.
-ghost use Rattle.console_rules.specs.Aircraft.{Showed, unreadSaid, numberSaid};
+ghost use Rattle.console_rules.specs.Aircraft.{Showed, numberSaid};
 use console_rules::Aircraft;
 use console_rules::Shown;
-
-// For a line that cannot be read.
-pub(crate) fn put_unread(a: Aircraft, out: &mut [u8]) -> Shown
-    ensures { λ r. ⌜ Showed (unreadSaid a) (now (out .entry)) (now (out .exit)) r ⌝ }
-{
-    let size = console_plain::put_unread(out);
-    Shown { size, aircraft: a }
-}
 
 // A call's number alone.
 pub(crate) fn put_number(n: u8, a: Aircraft, out: &mut [u8]) -> Shown

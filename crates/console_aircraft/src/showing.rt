@@ -2,8 +2,8 @@
 ghost use Prim.Native.Nat.{_≤_};
 ghost use lib.ListN.{length};
 ghost use Rattle.text_rules.specs.Put.{Put};
-ghost use Rattle.console_rules.specs.Aircraft.{Showed, Brief, holderText, lockText, locksText, heldText, shownText, stateText, stateSaid};
-use crate::answers::put_unread;
+ghost use Rattle.console_rules.specs.Texts.{Brief};
+ghost use Rattle.console_rules.specs.Aircraft.{Showed, holderText, lockText, locksText, heldText, shownText, stateText, stateSaid};
 use console_rules::Aircraft;
 use console_rules::Shown;
 use model_rules::Holder;
@@ -91,9 +91,6 @@ fn put_transponder(t: Transponder, out: &mut [u8]) -> usize
 pub fn put_state(a: Aircraft, out: &mut [u8]) -> Shown
     ensures { λ r. ⌜ Showed (stateSaid a) (now (out .entry)) (now (out .exit)) r ⌝ }
 {
-    if !a.made {
-        return put_unread(a, out);
-    }
     let t = a.transponder;
     let size = put_transponder(t, out);
     Shown { size, aircraft: a }

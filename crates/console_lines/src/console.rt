@@ -1,56 +1,104 @@
-// The lines of the console: the call that a line's first word names, and what a whole line says.
+// The lines of the console: the call that a line's first word names, and what a whole line tells.
 ghost use mathlib.Core.Path.{_≡_};
+ghost use mathlib.Core.Bool.{true};
 ghost use Rattle.text_rules.specs.Line.{wordsOf};
 ghost use Rattle.console_rules.specs.Texts.{word};
-ghost use Rattle.console_rules.specs.Aircraft.{Showed};
-ghost use Rattle.console_rules.specs.Console.{callSaid, commandSaid, comment, wordsSaid, lineSaid};
+ghost use Rattle.console_rules.specs.Console.{Answers, begun, callTold, commandTold, comment, wordsTold, lineTold};
 use crate::help::put_help;
-use crate::names::find_command;
-use crate::names::words_for;
-use console_rules::Aircraft;
+use crate::names::find_row;
+use crate::reasons::is_read;
+use crate::reasons::judge;
+use crate::reasons::put_reason;
+use crate::reasons::put_too_long;
+use console_rules::Answered;
+use console_rules::Bench;
 use console_rules::Command;
 use console_rules::Shown;
 
-// A text was laid, and the aircraft stays as it was.
-fn stay(size: usize, a: Aircraft) -> Shown
-    ensures { λ r. ⌜ r ≡ record { size = size; aircraft = a } ⌝ }
+// The bench before any line: no aircraft, and nobody has quit.
+pub fn begin() -> Bench
+    ensures { λ r. ⌜ r ≡ begun ⌝ }
 {
-    Shown { size, aircraft: a }
+    let aircraft = console_aircraft::none();
+    Bench {
+        aircraft,
+        over: false,
+    }
 }
 
-// What a call says for a line with its number of words.
-fn put_call(c: Command, line: &[u8], a: Aircraft, out: &mut [u8]) -> Shown
-    ensures { λ r. ⌜ Showed (callSaid c a (wordsOf (now (line .entry)))) (now (out .entry)) (now (out .exit)) r ⌝ }
+// A text was laid, and the bench stays as it was.
+fn stay(size: usize, b: Bench) -> Answered
+    ensures { λ r. ⌜ r ≡ record { size = size; bench = b } ⌝ }
+{
+    Answered { size, bench: b }
+}
+
+// A line of the aircraft was answered, and the bench has what it left.
+fn fly(s: Shown, b: Bench) -> Answered
+    ensures { λ r. ⌜ r ≡ record { size = s .size; bench = record { aircraft = s .aircraft; over = b .over } } ⌝ }
+{
+    let aircraft = s.aircraft;
+    Answered {
+        size: s.size,
+        bench: Bench {
+            aircraft,
+            over: b.over,
+        },
+    }
+}
+
+// The console is quit.
+fn end(b: Bench) -> Answered
+    ensures { λ r. ⌜ r ≡ record { size = 0; bench = record { aircraft = b .aircraft; over = true } } ⌝ }
+{
+    let aircraft = b.aircraft;
+    Answered {
+        size: 0,
+        bench: Bench {
+            aircraft,
+            over: true,
+        },
+    }
+}
+
+// What a call tells for a line that is read.
+fn put_call(c: Command, line: &[u8], b: Bench, out: &mut [u8]) -> Answered
+    ensures { λ r. ⌜ Answers (callTold c b (wordsOf (now (line .entry)))) (now (out .entry)) (now (out .exit)) r ⌝ }
 {
     match c {
-        Command::Remainder => stay(console_plain::put_remainder(line, out), a),
-        Command::Overlay => stay(console_plain::put_overlay(line, out), a),
-        Command::Correct => stay(console_plain::put_correct(line, out), a),
-        Command::Build => stay(console_plain::put_build(line, out), a),
-        Command::AllCall => stay(console_plain::put_all_call_frame(line, out), a),
-        Command::Up => stay(console_plain::put_up(line, out), a),
-        Command::Down => stay(console_plain::put_down(line, out), a),
-        Command::Code => stay(console_plain::put_code(line, out), a),
-        Command::Feet => stay(console_plain::put_feet(line, out), a),
-        Command::Model => console_aircraft::put_model(line, a, out),
-        Command::Queue => console_aircraft::put_queue(line, a, out),
-        Command::Send => console_aircraft::put_send(line, a, out),
-        Command::State => console_aircraft::put_state(a, out),
-        Command::Help => stay(put_help(out), a),
-        Command::Unknown => stay(console_plain::put_unread(out), a),
+        Command::Remainder => stay(console_plain::put_remainder(line, out), b),
+        Command::Overlay => stay(console_plain::put_overlay(line, out), b),
+        Command::Correct => stay(console_plain::put_correct(line, out), b),
+        Command::Build => stay(console_plain::put_build(line, out), b),
+        Command::AllCall => stay(console_plain::put_all_call_frame(line, out), b),
+        Command::Up => stay(console_plain::put_up(line, out), b),
+        Command::Down => stay(console_plain::put_down(line, out), b),
+        Command::Code => stay(console_plain::put_code(line, out), b),
+        Command::Feet => stay(console_plain::put_feet(line, out), b),
+        Command::Model => fly(console_aircraft::put_model(line, b.aircraft, out), b),
+        Command::Queue => fly(console_aircraft::put_queue(line, b.aircraft, out), b),
+        Command::Send => fly(console_aircraft::put_send(line, b.aircraft, out), b),
+        Command::State => fly(console_aircraft::put_state(b.aircraft, out), b),
+        Command::Explain => stay(console_plain::put_explain(line, out), b),
+        Command::Quit => end(b),
+        Command::Help => stay(put_help(out), b),
+        Command::Unknown => stay(0, b),
     }
 }
 
-// The call that the first word names, if the line has its number of words.
-fn put_command(line: &[u8], name: &[u8], a: Aircraft, out: &mut [u8]) -> Shown
+// The line that the first word names, if it is read, or why it is not.
+fn put_command(line: &[u8], name: &[u8], b: Bench, out: &mut [u8]) -> Answered
     requires { ⌜ now name ≡ word 0 (wordsOf (now line)) ⌝ }
-    ensures { λ r. ⌜ Showed (commandSaid a (wordsOf (now (line .entry)))) (now (out .entry)) (now (out .exit)) r ⌝ }
+    ensures { λ r. ⌜ Answers (commandTold b (wordsOf (now (line .entry)))) (now (out .entry)) (now (out .exit)) r ⌝ }
 {
-    let c = find_command(name);
-    if text::word_count(line) != words_for(c) {
-        return stay(console_plain::put_unread(out), a);
+    let row = find_row(name);
+    let a = b.aircraft;
+    let why = judge(line, row, a.made);
+    if !is_read(why) {
+        return stay(put_reason(why, out), b);
     }
-    put_call(c, line, a, out)
+    let c = row.command;
+    put_call(c, line, b, out)
 }
 
 // The word begins with a hash sign.
@@ -63,28 +111,31 @@ fn is_comment(word: &[u8]) -> bool
     word[0] == 35
 }
 
-// What a line says that is not too long.
-fn put_words(line: &[u8], a: Aircraft, out: &mut [u8]) -> Shown
-    ensures { λ r. ⌜ Showed (wordsSaid a (wordsOf (now (line .entry)))) (now (out .entry)) (now (out .exit)) r ⌝ }
+// What a line tells that is not too long.
+fn put_words(line: &[u8], b: Bench, out: &mut [u8]) -> Answered
+    ensures { λ r. ⌜ Answers (wordsTold b (wordsOf (now (line .entry)))) (now (out .entry)) (now (out .exit)) r ⌝ }
 {
     if text::word_count(line) == 0 {
-        return stay(0, a);
+        return stay(0, b);
     }
     let w = text::nth_word(line, 0);
     let from = w.from;
     let to = w.to;
     if is_comment(&line[from..to]) {
-        return stay(0, a);
+        return stay(0, b);
     }
-    put_command(line, &line[from..to], a, out)
+    put_command(line, &line[from..to], b, out)
 }
 
-// A line as the text that the console prints for it, and the aircraft that it leaves.
-pub fn console_line(a: Aircraft, line: &[u8], out: &mut [u8]) -> Shown
-    ensures { λ r. ⌜ Showed (lineSaid a (now (line .entry))) (now (out .entry)) (now (out .exit)) r ⌝ }
+// A line as the text that the console prints for it, and the bench that it leaves.
+pub fn console_line(b: Bench, line: &[u8], out: &mut [u8]) -> Answered
+    ensures { λ r. ⌜ Answers (lineTold b (now (line .entry))) (now (out .entry)) (now (out .exit)) r ⌝ }
 {
-    if 1000 < line.len() {
-        return stay(console_plain::put_too_long(out), a);
+    if b.over {
+        return stay(0, b);
     }
-    put_words(line, a, out)
+    if 1000 < line.len() {
+        return stay(put_too_long(out), b);
+    }
+    put_words(line, b, out)
 }

@@ -9,6 +9,9 @@ pub(crate) fn put_help(out: &mut [u8]) -> usize
     text::put_bytes(
         out,
         0,
-        b"remainder HEX\noverlay NUMBER\ncorrect HEX MARKS OVERLAY LIMIT\nbuild UF PC RR DI SD MA ADDRESS\nallcall PR IC CL\nup HEX\ndown HEX\ncode HEX CL IC PERMIT\nfeet AC\nmodel ADDRESS AC ID FS CA\nqueue HEX\nsend TIME DRAW HEX\nstate\n",
+        b"remainder HEX\noverlay NUMBER\ncorrect HEX MARKS OVERLAY LIMIT\n\
+        build UF PC RR DI SD MA ADDRESS\nallcall PR IC CL\nup HEX\ndown HEX\ncode HEX CL IC PERMIT\nfeet AC\n\
+        model ADDRESS AC ID FS CA\nqueue HEX\nsend TIME DRAW HEX\nstate\n\
+        explain NUMBER\nquit\n",
     )
 }

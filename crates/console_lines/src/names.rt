@@ -1,24 +1,25 @@
-// The calls of the console by their names, and how many words a line of each has.
+// The lines of the console by their names.
 ghost use Prim.Native.Nat.{_<_};
 ghost use mathlib.Core.Path.{_≡_};
 ghost use Rattle.text_rules.specs.Line.{sameAs};
-ghost use Rattle.console_rules.specs.Names.{commandOf, rowAt, rowCount, wordsFor};
+ghost use Rattle.console_rules.specs.Names.{noRow, rowOf, rowAt, rowCount};
 use console_rules::Command;
+use console_rules::Row;
 
 // The word is the k-th name.
 fn is_name(word: &[u8], k: usize) -> bool
     ensures { λ r. ⌜ r ≡ sameAs (now (word .entry)) (rowAt k .name) ⌝ }
 {
-    let names: &[u8] =
-        b"remainder overlay correct build allcall up down code feet model queue send state help";
+    let names: &[u8] = b"remainder overlay correct build allcall up down code feet \
+        model queue send state explain quit help";
     let w = text::nth_word(names, k);
     let from = w.from;
     let to = w.to;
     text::same(word, &names[from..to])
 }
 
-// How many names there are.
-const ROWS: usize = 14;
+// How many lines there are.
+const ROWS: usize = 16;
 
 // The calls in the order of their names.
 const COMMANDS: [Command; ROWS] = [
@@ -35,50 +36,78 @@ const COMMANDS: [Command; ROWS] = [
     Command::Queue,
     Command::Send,
     Command::State,
+    Command::Explain,
+    Command::Quit,
     Command::Help,
 ];
 
-// The call with the k-th name.
-fn command_at(k: usize) -> Command
+// How many words stand behind each name.
+const WORDS: [u8; ROWS] = [1, 1, 4, 7, 3, 1, 1, 4, 1, 5, 1, 3, 0, 1, 0, 0];
+
+// Which of them are bytes, one or two, counted from 1; 0 for none.
+const BYTES: [u8; ROWS] = [1, 0, 1, 6, 0, 1, 1, 1, 0, 0, 1, 3, 0, 0, 0, 0];
+
+const MORE: [u8; ROWS] = [0, 0, 2, 0, 0, 0, 0, 0, 0, 0, 0, 0, 0, 0, 0, 0];
+
+// Which lines need an aircraft.
+const AIRCRAFT: [bool; ROWS] = [
+    false,
+    false,
+    false,
+    false,
+    false,
+    false,
+    false,
+    false,
+    false,
+    false,
+    true,
+    true,
+    true,
+    false,
+    false,
+    false,
+];
+
+// The line with the k-th name.
+fn row_at(k: usize) -> Row
     requires { ⌜ k < rowCount ⌝ }
-    ensures { λ r. ⌜ r ≡ rowAt k .command ⌝ }
+    ensures { λ r. ⌜ r ≡ rowAt k .row ⌝ }
 {
-    COMMANDS[k]
+    Row {
+        known: true,
+        command: COMMANDS[k],
+        words: WORDS[k],
+        bytes: BYTES[k],
+        more: MORE[k],
+        aircraft: AIRCRAFT[k],
+    }
 }
 
-// The call that a word names.
-pub(crate) fn find_command(word: &[u8]) -> Command
-    ensures { λ r. ⌜ r ≡ commandOf (now (word .entry)) ⌝ }
+// There is no such line.
+fn no_row() -> Row
+    ensures { λ r. ⌜ r ≡ noRow ⌝ }
+{
+    Row {
+        known: false,
+        command: Command::Unknown,
+        words: 0,
+        bytes: 0,
+        more: 0,
+        aircraft: false,
+    }
+}
+
+// The line that a word names.
+pub(crate) fn find_row(word: &[u8]) -> Row
+    ensures { λ r. ⌜ r ≡ rowOf (now (word .entry)) ⌝ }
 {
     let mut k: usize = 0;
     while k < ROWS {
         if is_name(word, k) {
-            return command_at(k);
+            return row_at(k);
         }
         k += 1;
     }
-    Command::Unknown
-}
-
-// How many words a line of the call has.
-pub(crate) fn words_for(c: Command) -> usize
-    ensures { λ r. ⌜ r ≡ wordsFor c ⌝ }
-{
-    match c {
-        Command::Remainder => 2,
-        Command::Overlay => 2,
-        Command::Correct => 5,
-        Command::Build => 8,
-        Command::AllCall => 4,
-        Command::Up => 2,
-        Command::Down => 2,
-        Command::Code => 5,
-        Command::Feet => 2,
-        Command::Model => 6,
-        Command::Queue => 2,
-        Command::Send => 4,
-        Command::State => 1,
-        Command::Help => 1,
-        Command::Unknown => 0,
-    }
+    no_row()
 }

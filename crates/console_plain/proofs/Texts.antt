@@ -1,22 +1,27 @@
 -- The texts of the console from what was read of a line and from the parts that the code lays one after the other.
 use Prim.Native.Nat.{ℕ, _+_, _-_, _≤_}
 use native.Mathlib.Omega.{arith}
-use mathlib.Core.Path.{_≡_, sym, ap, _∙_}
+use mathlib.Core.Path.{_≡_, refl, sym, ap, _∙_}
+use mathlib.Core.Bool.{Bool, true, false, not}
 use mathlib.Core.List.{List}
-use mathlib.Core.Option.{some, none}
+use mathlib.Core.Option.{Option, some, none}
 use lib.Seq.{take-at}
 use lib.ListN.{length, take, drop, replicate, length-take, length-replicate, replicate-append-replicate}
+use borrow.Author.Tests.{not-true, not-false}
 use Rattle.text_rules.specs.Line.{wordsOf, within, NthWord}
-use Rattle.text_rules.specs.Hex.{bytesIn, HexRead}
-use Rattle.text_rules.proofs.HexRead.{hex-found, hex-not, hex-same}
+use Rattle.text_rules.specs.Put.{laid}
+use Rattle.text_rules.specs.Hex.{bytesIn, hexAnswer, filled, HexRead}
+use Rattle.text_rules.proofs.Laid.{take-laid, length-laid}
+use Rattle.console_rules.proofs.Short.{bytes-short}
+use Rattle.text_rules.specs.Bases.{numberOf}
+use Rattle.text_rules.proofs.HexRead.{hex-found, hex-not}
 use Rattle.text_rules.specs.declared.answer.Span.{Span}
 use Rattle.text_rules.specs.declared.answer.Hex.{Hex}
 use Rattle.text_rules.specs.declared.answer.Hex.the-variants.{Bytes, Not}
 use Rattle.text_rules.specs.declared.answer.Number.{Number}
 use Rattle.text_rules.specs.declared.answer.Number.the-variants as number
-use Rattle.text_rules.specs.Put.{Put}
-use Rattle.text_rules.specs.Number.{numberIn}
-use Rattle.console_rules.specs.Texts.{word, unread, ofNumber, ofBytes, withNumber, withBytes}
+use Rattle.console_rules.specs.Texts.{word, theNumber, theBytes, numberAt, bytesAt, BytesAt}
+use Rattle.console_rules.specs.Reasons.{isNumber, areBytes, says}
 
 -- ---- read
 
@@ -25,83 +30,98 @@ pub word-of : {line : List ℕ} {k : ℕ} {w : Span} → NthWord line k w → ta
 unfolding within word
 word-of n = n .text
 
--- what is read of the span is what is read of the word
-module _ {line : List ℕ} {k : ℕ} {w : Span} (n : NthWord line k w) where
-  pub same-number : {r : Number} → r ≡ numberIn 10 (take (w .to - w .from) (drop (w .from) line)) → r ≡ numberIn 10 (word k (wordsOf line))
-  same-number e = rw (word-of n) at e
+-- the bytes that were read of a word, by what it says
+found-by : (w : List ℕ) (o : Option (List ℕ)) {l m : List ℕ} {n : ℕ} → bytesIn w ≡ o → HexRead w l m (Bytes n)
+    → (n ≡ length (theBytes o)) × (m ≡ laid (theBytes o) 0 l)
+unfolding theBytes hexAnswer filled
+found-by w (some bs) {n = n} e h =
+    let a : Bytes n ≡ Bytes (length bs) = h .answer ∙ ap hexAnswer e in
+    let z : n ≡ length bs = cc in
+    (z, h .buffer ∙ rw e)
+found-by w none {n = n} e h =
+    let a : Bytes n ≡ Not = h .answer ∙ ap hexAnswer e in
+    let z : _≡_ {A = ℕ} 0 1 = cc in
+    absurd (omega arith)
 
-  pub same-bytes : {l m : List ℕ} {a : Hex} → HexRead (take (w .to - w .from) (drop (w .from) line)) l m a → HexRead (word k (wordsOf line)) l m a
-  same-bytes e = rw (word-of n) at e
+-- ---- `search reads` tells what a word says from what was read of its span
+module _ {line : List ℕ} {k : ℕ} {w : Span} (at : NthWord line k w) where
+  module _ {r : Number} (e : r ≡ numberOf (take (w .to - w .from) (drop (w .from) line))) where
+    pub is-number : {n : ℕ} → r ≡ number.Is n → n ≡ numberAt k (wordsOf line)
+    unfolding theNumber
+    is-number h = rw (← word-of at, ← e, h)
 
--- the word w says n bytes, and they stand at the front of the buffer m
-pub record Held (w : List ℕ) (n : ℕ) (m : List ℕ) : Type 0 where
-  pub said : bytesIn w ≡ some (take n m)
-  pub few : n ≤ 32
-  pub room : n ≤ length m
-  pub count : n ≡ length (take n m)
+    pub no-number : r ≡ number.Not → 0 ≡ numberAt k (wordsOf line)
+    unfolding theNumber
+    no-number h = rw (← word-of at, ← e, h)
 
-module _ {w l m : List ℕ} {a : Hex} (e : HexRead w l m a) where
-  pub held : {n : ℕ} → length l ≡ 32 → a ≡ Bytes n → Held w n m
-  held k h =
-      let f = hex-found k (rw h at e) in
-      record { said = f .0; few = f .1; room = omega (arith, f .1, hex-same e); count = simp length-take (omega (arith, f .1, hex-same e)) }
+  module _ {l m : List ℕ} {a : Hex} (e : HexRead (take (w .to - w .from) (drop (w .from) line)) l m a) where
+    word-read : HexRead (word k (wordsOf line)) l m a
+    word-read = rw (word-of at) at e
 
-  pub no-bytes : a ≡ Not → bytesIn w ≡ none
-  no-bytes h = hex-not (rw h at e) .0
+    pub is-bytes : {n : ℕ} → a ≡ Bytes n → BytesAt k (wordsOf line) l m n
+    is-bytes h =
+        let f = found-by (word k (wordsOf line)) (bytesIn (word k (wordsOf line))) refl (rw h at word-read) in
+        record { answer = f .0; buffer = f .1 }
 
--- a buffer of 32 zeros, lent as long as the bytes that a word says
+    pub no-bytes : a ≡ Not → BytesAt k (wordsOf line) l m 0
+    unfolding theBytes laid
+    no-bytes h = let f = hex-not (rw h at word-read) in record { answer = rw (f .0); buffer = rw (f .0) (f .1) }
+
+pub ruleset reads = (is-number, no-number, is-bytes, no-bytes)
+
+-- ---- `search told` tells whether a word says what belongs there
+module _ (w : List ℕ) (b : Bool) where
+  module _ (h : not b ≡ true) {r : Number} (e : r ≡ numberOf w) where
+    pub told-number : {n : ℕ} → r ≡ number.Is n → true ≡ says b w
+    unfolding says isNumber
+    told-number k = rw (not-true b h, ← e, k)
+
+    pub told-none : r ≡ number.Not → false ≡ says b w
+    unfolding says isNumber
+    told-none k = rw (not-true b h, ← e, k)
+
+  module _ (h : not b ≡ false) {l m : List ℕ} {a : Hex} (e : HexRead w l m a) where
+    pub told-bytes : {n : ℕ} → a ≡ Bytes n → length l ≡ 32 → true ≡ says b w
+    unfolding says areBytes
+    told-bytes k z = rw (not-false b h, hex-found z (rw k at e) .0)
+
+    pub told-other : a ≡ Not → false ≡ says b w
+    unfolding says areBytes
+    told-other k = rw (not-false b h, hex-not (rw k at e) .0)
+
+pub ruleset told = (told-number, told-none, told-bytes, told-other)
+
+pub same-says : (b : Bool) {line : List ℕ} {k : ℕ} {w : Span} {r : Bool} → NthWord line k w → r ≡ says b (take (w .to - w .from) (drop (w .from) line))
+    → r ≡ says b (word k (wordsOf line))
+same-says b at e = rw (word-of at) at e
+
+-- ---- `search lent` finds what lending the bytes of a word asks, and as many zeros
 front-zeros : (n : ℕ) → n ≤ 32 → take n (replicate {A = ℕ} 32 0) ≡ replicate n 0
 front-zeros n h =
     let e : 32 ≡ n + (32 - n) = omega arith in
     ap (λ (k : ℕ). take n (replicate {A = ℕ} k 0)) e ∙ ap (take n) (sym (replicate-append-replicate n (32 - n) 0))
     ∙ take-at (replicate n 0) (replicate (32 - n) 0) n (length-replicate n 0)
 
-module _ {w : List ℕ} {n : ℕ} {m : List ℕ} (h : Held w n m) where
-  pub zeros : take n (replicate {A = ℕ} 32 0) ≡ replicate (length (take n m)) 0
-  zeros = front-zeros n (h .few) ∙ ap (λ (k : ℕ). replicate k 0) (h .count)
-
-  pub zeros-count : n ≡ length (take n (replicate {A = ℕ} 32 0))
-  zeros-count = rw (front-zeros n (h .few)) (sym (length-replicate n 0))
-
--- ---- a line read word by word: what a call answered of a word, and the text that is laid then
-
-module _ {at q : ℕ} {l m : List ℕ} where
-  pub is-number : (f : ℕ → List ℕ) {r w : Number} {n : ℕ} → r ≡ w → r ≡ number.Is n → Put (f n) at l m q → Put (withNumber w f) at l m q
-  unfolding ofNumber
-  is-number f e h p = rw (← e, h) p
-
-  pub not-number : (f : ℕ → List ℕ) {r w : Number} → r ≡ w → r ≡ number.Not → Put unread at l m q → Put (withNumber w f) at l m q
-  unfolding ofNumber
-  not-number f e h p = rw (← e, h) p
-
-  module _ (f : List ℕ → List ℕ) {w b k : List ℕ} {a : Hex} (e : HexRead w k b a) where
-    pub is-bytes : {n : ℕ} → a ≡ Bytes n → length k ≡ 32 → Put (f (take n b)) at l m q → Put (withBytes (bytesIn w) f) at l m q
-    unfolding ofBytes
-    is-bytes h z p = rw (held e z h .said) p
-
-    pub not-bytes : a ≡ Not → Put unread at l m q → Put (withBytes (bytesIn w) f) at l m q
-    unfolding ofBytes
-    not-bytes h p = rw (no-bytes e h) p
-
--- `search words` reads a line's words on, as far as the code did
-pub ruleset words = (is-number, not-number, is-bytes, not-bytes)
-
--- the bytes of a word, and as many zeros, as lending them asks
-module _ {w b k : List ℕ} {a : Hex} {n : ℕ} (e : HexRead w k b a) (h : a ≡ Bytes n) (z : length k ≡ 32) where
+module _ {k : ℕ} {ws : List (List ℕ)} {l m : List ℕ} {n : ℕ} (h : BytesAt k ws l m n) (z : length l ≡ 32) where
   pub bytes-few : n ≤ 32
-  bytes-few = held e z h .few
+  bytes-few = omega (arith, h .answer, bytes-short k ws)
 
-  pub bytes-room : n ≤ length b
-  bytes-room = held e z h .room
+  same : length m ≡ 32
+  same = ap length (h .buffer) ∙ length-laid (bytesAt k ws) 0 l ∙ z
 
-  pub bytes-count : n ≡ length (take n b)
-  bytes-count = held e z h .count
+  pub bytes-room : n ≤ length m
+  bytes-room = omega (arith, bytes-few, same)
 
-  pub bytes-zeros : take n (replicate {A = ℕ} 32 0) ≡ replicate (length (take n b)) 0
-  bytes-zeros = zeros (held e z h)
+  pub bytes-count : n ≡ length (take n m)
+  bytes-count = simp length-take (omega (arith, bytes-few, same))
+
+  pub bytes-zeros : take n (replicate {A = ℕ} 32 0) ≡ replicate (length (take n m)) 0
+  bytes-zeros = front-zeros n bytes-few ∙ ap (λ (i : ℕ). replicate i 0) bytes-count
 
   pub zeros-lent : n ≡ length (take n (replicate {A = ℕ} 32 0))
-  zeros-lent = zeros-count (held e z h)
+  zeros-lent = rw (front-zeros n bytes-few) (sym (length-replicate n 0))
 
--- `search lent` finds what lending the front of a buffer asks
-pub ruleset lent = (bytes-few, bytes-room, bytes-count, bytes-zeros, zeros-lent)
+  pub bytes-are : take n m ≡ bytesAt k ws
+  bytes-are = rw (h .answer, h .buffer) (take-laid (bytesAt k ws) l (omega (arith, bytes-short k ws)))
+
+pub ruleset lent = (bytes-few, bytes-room, bytes-count, bytes-zeros, zeros-lent, bytes-are)

@@ -2,23 +2,9 @@
 ghost use Rattle.text_rules.specs.Put.{Put};
 ghost use Rattle.text_rules.specs.Hex.{hexIn};
 ghost use Rattle.parity_rules.specs.Answers.{reckonedSaid};
-ghost use Rattle.console_rules.specs.Texts.{unread, tooLong, doneText, refusalText};
+ghost use Rattle.console_rules.specs.Texts.{doneText, refusalText};
 ghost use Rattle.console_rules.specs.Parity.{reckonedText};
 use parity::Reckoned;
-
-// For a line that cannot be read.
-pub fn put_unread(out: &mut [u8]) -> usize
-    ensures { λ r. ⌜ Put unread 0 (now (out .entry)) (now (out .exit)) r ⌝ }
-{
-    text::put_bytes(out, 0, b"?\n")
-}
-
-// For a line that is longer than 1000 bytes.
-pub fn put_too_long(out: &mut [u8]) -> usize
-    ensures { λ r. ⌜ Put tooLong 0 (now (out .entry)) (now (out .exit)) r ⌝ }
-{
-    text::put_bytes(out, 0, b"? longer than 1000 bytes\n")
-}
 
 // A refusal's number alone.
 pub fn put_refusal(out: &mut [u8], n: u32) -> usize

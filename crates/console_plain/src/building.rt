@@ -2,15 +2,12 @@
 ghost use Rattle.text_rules.specs.Put.{Put};
 ghost use Rattle.text_rules.specs.Line.{wordsOf};
 ghost use Rattle.frames_rules.specs.Answers.{builtSaid};
-ghost use Rattle.console_rules.specs.Building.{builtText, selectiveText, addressedText, buildText, allCallText};
+ghost use Rattle.console_rules.specs.Building.{builtText, selectiveText, buildText, allCallText};
 use crate::answers::put_refusal;
-use crate::answers::put_unread;
 use crate::values::is_long;
 use crate::words::bytes_at;
 use crate::words::number_at;
 use frames::Built;
-use text_rules::Hex;
-use text_rules::Number;
 
 // The frame that was built, or the refusal.
 fn put_built(out: &mut [u8], b: Built, frame: &[u8]) -> usize
@@ -50,55 +47,28 @@ fn put_selective(
     put_built(out, b, &frame)
 }
 
-// MA as its bytes, and the address, behind the fields.
-fn put_addressed(line: &[u8], out: &mut [u8], uf: u32, pc: u32, rr: u32, di: u32, sd: u32) -> usize
-    ensures { λ r. ⌜ Put (addressedText uf pc rr di sd (wordsOf (now (line .entry)))) 0 (now (out .entry)) (now (out .exit)) r ⌝ }
-{
-    let mut ma = [0u8; 32];
-    let Hex::Bytes(n) = bytes_at(line, 6, &mut ma) else {
-        return put_unread(out);
-    };
-    let Number::Is(address) = number_at(line, 7) else {
-        return put_unread(out);
-    };
-    put_selective(out, uf, pc, rr, di, sd, &ma[..n], address)
-}
-
-// The fields of a selective interrogation, then MA and the address.
+// The fields of a selective interrogation, MA and the address.
 pub fn put_build(line: &[u8], out: &mut [u8]) -> usize
     ensures { λ r. ⌜ Put (buildText (wordsOf (now (line .entry)))) 0 (now (out .entry)) (now (out .exit)) r ⌝ }
 {
-    let Number::Is(uf) = number_at(line, 1) else {
-        return put_unread(out);
-    };
-    let Number::Is(pc) = number_at(line, 2) else {
-        return put_unread(out);
-    };
-    let Number::Is(rr) = number_at(line, 3) else {
-        return put_unread(out);
-    };
-    let Number::Is(di) = number_at(line, 4) else {
-        return put_unread(out);
-    };
-    let Number::Is(sd) = number_at(line, 5) else {
-        return put_unread(out);
-    };
-    put_addressed(line, out, uf, pc, rr, di, sd)
+    let uf = number_at(line, 1);
+    let pc = number_at(line, 2);
+    let rr = number_at(line, 3);
+    let di = number_at(line, 4);
+    let sd = number_at(line, 5);
+    let mut ma = [0u8; 32];
+    let n = bytes_at(line, 6, &mut ma);
+    let address = number_at(line, 7);
+    put_selective(out, uf, pc, rr, di, sd, &ma[..n], address)
 }
 
 // The fields of an all-call.
 pub fn put_all_call_frame(line: &[u8], out: &mut [u8]) -> usize
     ensures { λ r. ⌜ Put (allCallText (wordsOf (now (line .entry)))) 0 (now (out .entry)) (now (out .exit)) r ⌝ }
 {
-    let Number::Is(pr) = number_at(line, 1) else {
-        return put_unread(out);
-    };
-    let Number::Is(ic) = number_at(line, 2) else {
-        return put_unread(out);
-    };
-    let Number::Is(cl) = number_at(line, 3) else {
-        return put_unread(out);
-    };
+    let pr = number_at(line, 1);
+    let ic = number_at(line, 2);
+    let cl = number_at(line, 3);
     let mut frame = [0u8; 7];
     let b = frames::all_call(pr, ic, cl, &mut frame);
     put_built(out, b, &frame)

@@ -4,12 +4,9 @@ ghost use Rattle.text_rules.specs.Line.{wordsOf};
 ghost use Rattle.frames_rules.specs.Answers.{codeSaid};
 ghost use Rattle.console_rules.specs.Frames.{whoseText, codeText};
 use crate::answers::put_refusal;
-use crate::answers::put_unread;
 use crate::words::bytes_at;
 use crate::words::number_at;
 use frames::Code;
-use text_rules::Hex;
-use text_rules::Number;
 
 // Whose code it is, or the refusal.
 fn put_whose(out: &mut [u8], a: Code) -> usize
@@ -30,17 +27,9 @@ pub fn put_code(line: &[u8], out: &mut [u8]) -> usize
     ensures { λ r. ⌜ Put (codeText (wordsOf (now (line .entry)))) 0 (now (out .entry)) (now (out .exit)) r ⌝ }
 {
     let mut msg = [0u8; 32];
-    let Hex::Bytes(n) = bytes_at(line, 1, &mut msg) else {
-        return put_unread(out);
-    };
-    let Number::Is(cl) = number_at(line, 2) else {
-        return put_unread(out);
-    };
-    let Number::Is(ic) = number_at(line, 3) else {
-        return put_unread(out);
-    };
-    let Number::Is(permit) = number_at(line, 4) else {
-        return put_unread(out);
-    };
+    let n = bytes_at(line, 1, &mut msg);
+    let cl = number_at(line, 2);
+    let ic = number_at(line, 3);
+    let permit = number_at(line, 4);
     put_whose(out, frames::code_of(&msg[..n], cl, ic, permit))
 }

@@ -6,12 +6,9 @@ ghost use Rattle.text_rules.specs.Line.{wordsOf};
 ghost use Rattle.parity_rules.specs.Answers.{fixSaid};
 ghost use Rattle.console_rules.specs.Parity.{correctedText, fixedText, correctText};
 use crate::answers::put_refusal;
-use crate::answers::put_unread;
 use crate::words::bytes_at;
 use crate::words::number_at;
 use parity::Fix;
-use text_rules::Hex;
-use text_rules::Number;
 
 // The corrected message and its flips, or the refusal.
 fn put_corrected(out: &mut [u8], f: Fix, fixed: &[u8]) -> usize
@@ -54,19 +51,11 @@ pub fn put_correct(line: &[u8], out: &mut [u8]) -> usize
     ensures { λ r. ⌜ Put (correctText (wordsOf (now (line .entry)))) 0 (now (out .entry)) (now (out .exit)) r ⌝ }
 {
     let mut msg = [0u8; 32];
-    let Hex::Bytes(n) = bytes_at(line, 1, &mut msg) else {
-        return put_unread(out);
-    };
+    let n = bytes_at(line, 1, &mut msg);
     let mut marks = [0u8; 32];
-    let Hex::Bytes(m) = bytes_at(line, 2, &mut marks) else {
-        return put_unread(out);
-    };
-    let Number::Is(overlay) = number_at(line, 3) else {
-        return put_unread(out);
-    };
-    let Number::Is(limit) = number_at(line, 4) else {
-        return put_unread(out);
-    };
+    let m = bytes_at(line, 2, &mut marks);
+    let overlay = number_at(line, 3);
+    let limit = number_at(line, 4);
     let mut fixed = [0u8; 32];
     put_fixed(out, &msg[..n], &marks[..m], overlay, limit, &mut fixed[..n])
 }

@@ -2,16 +2,11 @@
 ghost use Rattle.text_rules.specs.Put.{Put};
 ghost use Rattle.text_rules.specs.Line.{wordsOf};
 ghost use Rattle.console_rules.specs.Feet.{feetText};
-use crate::answers::put_unread;
 use crate::words::number_at;
-use text_rules::Number;
 
 // The altitude that a code says.
 pub fn put_feet(line: &[u8], out: &mut [u8]) -> usize
     ensures { λ r. ⌜ Put (feetText (wordsOf (now (line .entry)))) 0 (now (out .entry)) (now (out .exit)) r ⌝ }
 {
-    match number_at(line, 1) {
-        Number::Is(ac) => feet_lines::put_answer(out, 0, ac),
-        Number::Not => put_unread(out),
-    }
+    feet_lines::put_answer(out, 0, number_at(line, 1))
 }

@@ -3,13 +3,11 @@ ghost use Rattle.text_rules.specs.Put.{Put};
 ghost use Rattle.text_rules.specs.Line.{wordsOf};
 ghost use Rattle.console_rules.specs.Frames.{interrogationText, replyText, upText, downText};
 use crate::answers::put_refusal;
-use crate::answers::put_unread;
 use crate::values::put_eleven;
 use crate::values::put_seven;
 use crate::words::bytes_at;
 use frames::Down;
 use frames::Up;
-use text_rules::Hex;
 
 // A reply's values, or the refusal.
 fn put_reply(out: &mut [u8], msg: &[u8]) -> usize
@@ -52,10 +50,8 @@ pub fn put_down(line: &[u8], out: &mut [u8]) -> usize
     ensures { λ r. ⌜ Put (downText (wordsOf (now (line .entry)))) 0 (now (out .entry)) (now (out .exit)) r ⌝ }
 {
     let mut msg = [0u8; 32];
-    match bytes_at(line, 1, &mut msg) {
-        Hex::Bytes(n) => put_reply(out, &msg[..n]),
-        Hex::Not => put_unread(out),
-    }
+    let n = bytes_at(line, 1, &mut msg);
+    put_reply(out, &msg[..n])
 }
 
 // An interrogation's values, or the refusal.
@@ -100,8 +96,6 @@ pub fn put_up(line: &[u8], out: &mut [u8]) -> usize
     ensures { λ r. ⌜ Put (upText (wordsOf (now (line .entry)))) 0 (now (out .entry)) (now (out .exit)) r ⌝ }
 {
     let mut msg = [0u8; 32];
-    match bytes_at(line, 1, &mut msg) {
-        Hex::Bytes(n) => put_interrogation(out, &msg[..n]),
-        Hex::Not => put_unread(out),
-    }
+    let n = bytes_at(line, 1, &mut msg);
+    put_interrogation(out, &msg[..n])
 }

@@ -3,29 +3,22 @@ ghost use Rattle.text_rules.specs.Put.{Put};
 ghost use Rattle.text_rules.specs.Line.{wordsOf};
 ghost use Rattle.console_rules.specs.Parity.{remainderText, overlayText};
 use crate::answers::put_reckoned;
-use crate::answers::put_unread;
 use crate::words::bytes_at;
 use crate::words::number_at;
-use text_rules::Hex;
-use text_rules::Number;
 
 // The remainder of a message.
 pub fn put_remainder(line: &[u8], out: &mut [u8]) -> usize
     ensures { λ r. ⌜ Put (remainderText (wordsOf (now (line .entry)))) 0 (now (out .entry)) (now (out .exit)) r ⌝ }
 {
     let mut msg = [0u8; 32];
-    match bytes_at(line, 1, &mut msg) {
-        Hex::Bytes(n) => put_reckoned(out, parity::remainder(&msg[..n])),
-        Hex::Not => put_unread(out),
-    }
+    let n = bytes_at(line, 1, &mut msg);
+    put_reckoned(out, parity::remainder(&msg[..n]))
 }
 
 // The uplink overlay of an address.
 pub fn put_overlay(line: &[u8], out: &mut [u8]) -> usize
     ensures { λ r. ⌜ Put (overlayText (wordsOf (now (line .entry)))) 0 (now (out .entry)) (now (out .exit)) r ⌝ }
 {
-    match number_at(line, 1) {
-        Number::Is(address) => put_reckoned(out, parity::uplink_overlay(address)),
-        Number::Not => put_unread(out),
-    }
+    let address = number_at(line, 1);
+    put_reckoned(out, parity::uplink_overlay(address))
 }

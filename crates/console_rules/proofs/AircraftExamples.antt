@@ -16,7 +16,6 @@ use Rattle.parity_rules.specs.Overlays.{lowBits, times, overlayOf}
 use Rattle.frames_rules.specs.Fields.{headOf, midOf, replyHead, allCallReplyHead}
 use Rattle.frames_rules.specs.Frames.{front, sealed}
 use Rattle.frames_rules.specs.Building.{selectiveRanged, replyRanged, allCallReplyRanged, aReply, anAllCallReply, replying, allCallReplying}
-use Rattle.lists.specs.Checks.{checked}
 use Rattle.frames_rules.specs.Interrogations.{upOf}
 use Rattle.frames_rules.specs.Shared.{codeFor, drawn}
 use Rattle.model_rules.specs.State.{started, messagesWith, messagesAfter}
@@ -26,8 +25,10 @@ use Rattle.model_rules.specs.CommB.{reserve, closeout}
 use Rattle.model_rules.specs.Replies.{sending, respond, drawsBelow, answers, answerAllCall}
 use Rattle.model_rules.specs.Calls.{newborn, makeRanged, making, queuing, steps, interrogated, laidOver, selectiveComes, allCallComes, comes, taking}
 use Rattle.console_rules.specs.Texts.{doneText, refusalText, answerText}
-use Rattle.console_rules.specs.Aircraft.{unmade, whenMade, madeSaid, modelSaid, queuedSaid, queueSaid, sentText, tookSaid, sendSaid, holderText}
+use Rattle.console_rules.specs.Aircraft.{unmade, madeSaid, modelSaid, queuedSaid, queueSaid, sentText, tookSaid, sendSaid, holderText}
 use Rattle.console_rules.specs.Aircraft.{timerText, lockText, locksText, stateText, stateSaid}
+use Rattle.console_rules.specs.Explain.{meanings, meaningText, explainText}
+use Rattle.console_rules.specs.Reasons.{reasonText}
 use Rattle.console_rules.specs.Console.{linesText, consoleText}
 use Rattle.console_rules.proofs.Examples.{Reading}
 
@@ -60,12 +61,12 @@ no-aircraft = refl
 -- no aircraft before a model, nor after one that is refused
 abbrev begun : List Told
 begun =
-    says "state" "?"
-    ∷ says "queue 20466D72D75DA0" "?"
-    ∷ says "send 0 0 5808000024E102" "?"
+    says "state" "? no aircraft"
+    ∷ says "queue 20466D72D75DA0" "? no aircraft"
+    ∷ says "send 0 0 5808000024E102" "? no aircraft"
     ∷ says "model 0 5912 2349 0 5" "2"
-    ∷ says "state" "?"
-    ∷ says "model 4739038 5912 2349 0 5" "0"
+    ∷ says "state" "? no aircraft"
+    ∷ says "model 0x484FDE 5912 2349 0 5" "0"
     ∷ says "state" "0 0 - 0"
     ∷ []
 
@@ -116,18 +117,23 @@ refusals =
     ∷ says "send 599 0 5808000024E102" "15"
     ∷ says "send 700 16 5808000024E102" "2"
     ∷ says "send 700 0 5D5D5D5D5D5D" "1"
-    ∷ says "send x 0 5808000024E102" "?"
+    ∷ says "send x 0 5808000024E102" "? word 1 is no number"
     ∷ says "queue 000000000000" "1"
     ∷ says "model 1 8192 0 0 0" "2"
-    ∷ says "model 1 x 0 0 0" "?"
+    ∷ says "model 1 x 0 0 0" "? word 2 is no number"
     ∷ says "state" "0 600 - 0"
     ∷ []
+
+-- behind `quit` nothing prints, though lines come
+quit : consoleText (plain "explain 5\nquit\nstate\nexplain 5\n") ≡ plain "0 the address is there already\n"
+unfolding Reading consoleText linesText linesOf newline doneText meanings meaningText explainText
+quit = refl
 
 runs-printed : Printed begun × Printed locking × Printed codes × Printed delivery × Printed refusals
 unfolding Reading checked consoleText linesText linesOf newline answerText doneText refusalText decimal decimalIn hexIn hexOf hexDigit bits shiftIn divide
     remainderOf lowBits times overlayOf selectiveRanged replyRanged allCallReplyRanged aReply anAllCallReply replying allCallReplying headOf midOf replyHead
     allCallReplyHead front sealed codeFor drawn over started messagesWith messagesAfter timerAfter timersAfter lapse startedByLOS startedByLSS commandOfSD
     commanded lockout lockedTo reserve closeout sending respond drawsBelow answers answerAllCall newborn makeRanged making queuing steps interrogated
-    laidOver taking unmade whenMade madeSaid modelSaid queuedSaid queueSaid sentText tookSaid sendSaid holderText timerText lockText locksText stateText
-    stateSaid upOf selectiveComes allCallComes comes
+    laidOver taking unmade madeSaid modelSaid queuedSaid queueSaid sentText tookSaid sendSaid holderText timerText lockText locksText stateText
+    stateSaid upOf selectiveComes allCallComes comes reasonText
 runs-printed = (refl, refl, refl, refl, refl)

@@ -2,7 +2,6 @@
 use Prim.Native.String.{String}
 use mathlib.Core.Path.{_≡_, refl}
 use mathlib.Core.List.{[], _∷_}
-use mathlib.Core.Option.{some, none}
 use Rattle.lists.specs.Lists.{filter}
 use Rattle.lists.specs.Checks.{checked}
 use Rattle.text_rules.specs.Plain.{plain}
@@ -10,8 +9,8 @@ use Rattle.text_rules.specs.Put.{decimalIn, decimal}
 use Rattle.text_rules.specs.Signed.{signedDecimal}
 use Rattle.text_rules.specs.Line.{blank, grown, parts, full, wordsOf, sameAs}
 use Rattle.text_rules.specs.Number.{between, isDigit, allDigits, valueAfter, numberIn}
+use Rattle.text_rules.specs.Bases.{hexAfter, hexNumber, numberOf}
 use Rattle.text_rules.specs.Hex.{hexDigit, hexIn, hexOf, hexValue, allHex, pairs, isHex, bytesIn}
-use Rattle.text_rules.specs.declared.answer.Number.the-variants.{Is, Not}
 use Rattle.parity_rules.specs.Messages.{bits}
 use Rattle.parity_rules.specs.Division.{shiftIn, divide, remainderOf, remainderAnswer, syndrome}
 use Rattle.parity_rules.specs.Overlays.{lowBits, times, overlayOf, uplinkOverlay}
@@ -23,35 +22,39 @@ use Rattle.frames_rules.specs.Reading.{readAs, selectiveRead, allCallRead, surv
 use Rattle.frames_rules.specs.Codes.{whose, codeOf}
 use Rattle.altitude_rules.specs.Code.{eleven, feetBy25, grayValue, eight, fiveHundreds, group, hundreds, feetBy100, formOf, altitude}
 use Rattle.console_rules.specs.FeetLines as feet
-use Rattle.console_rules.specs.Texts.{word, numberWord, bytesAt, ofNumber, ofBytes, doneText, refusalText, answerText}
+use Rattle.console_rules.specs.Texts.{word, theNumber, theBytes, numberAt, bytesAt, doneText, refusalText, answerText}
 use Rattle.console_rules.specs.Parity.{reckonedText, correctedText, remainderText, overlayText, fixedText, correctText}
 use Rattle.console_rules.specs.Building.{builtText, selectiveText, buildText, allCallText}
 use Rattle.console_rules.specs.Frames.{numberText, fieldsText, endText, numbersText, valuesText, readText, replyText, interrogationText, upText}
 use Rattle.console_rules.specs.Frames.{downText, codeWord, whoseText, codeText}
 use Rattle.console_rules.specs.Feet.{feetText}
-use Rattle.console_rules.specs.Aircraft.{unmade, whenMade, stateSaid, queueSaid, sendSaid}
-use Rattle.console_rules.specs.Names.{table, commandIn, commandOf, wordsFor}
-use Rattle.console_rules.specs.Console.{callSaid, countedSaid, commandSaid, comment, wordsSaid, lineSaid, lineText}
+use Rattle.console_rules.specs.Aircraft.{unmade}
+use Rattle.console_rules.specs.Explain.{meanings, meaningText, explainText}
+use Rattle.console_rules.specs.Names.{table, rowIn, rowOf}
+use Rattle.console_rules.specs.Reasons.{isBytes, isNumber, areBytes, says, faultBehind, fault, wordReason, reasonOf, isRead, reasonText}
+use Rattle.console_rules.specs.Console.{callTold, judgedTold, rowTold, commandTold, comment, wordsTold, lineTold, lineText, begun}
 
 -- what a line prints before any model, both as quoted texts
 abbrev Prints : String → String → Type 0
-Prints line text = lineText unmade (plain line) ≡ plain text
+Prints line text = lineText begun (plain line) ≡ plain text
 
--- ---- the words of a line where a number or bytes belong; a word that is not there is neither
+-- ---- the words of a line where a number or bytes belong; one that says neither, or is not there, counts 0 or no bytes
 words-read :
-    (numberWord 1 (wordsOf (plain "overlay 4294967295")) ≡ Is 4294967295)
-    × (numberWord 2 (wordsOf (plain "send 30 0 200110401E9EB5")) ≡ Is 0)
-    × (numberWord 1 (wordsOf (plain "overlay")) ≡ Not)
-    × (bytesAt 1 (wordsOf (plain "queue 20466D72D75DA0")) ≡ some (0x20 ∷ 0x46 ∷ 0x6D ∷ 0x72 ∷ 0xD7 ∷ 0x5D ∷ 0xA0 ∷ []))
-    × (bytesAt 3 (wordsOf (plain "send 30 0 200110401E9EB5")) ≡ some (0x20 ∷ 0x01 ∷ 0x10 ∷ 0x40 ∷ 0x1E ∷ 0x9E ∷ 0xB5 ∷ []))
-    × (bytesAt 1 (wordsOf (plain "queue")) ≡ none)
-unfolding word wordsOf parts full grown blank sameAs numberIn allDigits valueAfter bytesIn isHex allHex hexValue pairs isDigit between
+    (numberAt 1 (wordsOf (plain "overlay 4294967295")) ≡ 4294967295)
+    × (numberAt 2 (wordsOf (plain "send 30 0x1F 200110401E9EB5")) ≡ 31)
+    × (numberAt 1 (wordsOf (plain "overlay x")) ≡ 0)
+    × (bytesAt 1 (wordsOf (plain "queue 20466D72D75DA0")) ≡ 0x20 ∷ 0x46 ∷ 0x6D ∷ 0x72 ∷ 0xD7 ∷ 0x5D ∷ 0xA0 ∷ [])
+    × (bytesAt 3 (wordsOf (plain "send 30 0 200110401E9EB5")) ≡ 0x20 ∷ 0x01 ∷ 0x10 ∷ 0x40 ∷ 0x1E ∷ 0x9E ∷ 0xB5 ∷ [])
+    × (bytesAt 1 (wordsOf (plain "queue")) ≡ [])
+unfolding word wordsOf parts full grown blank sameAs numberIn allDigits valueAfter bytesIn isHex allHex hexValue pairs isDigit between theNumber theBytes
+    numberOf hexNumber hexAfter
 words-read = (refl, refl, refl, refl, refl, refl)
 
--- how a line is read, for every claim below: its words, its command, its numbers and bytes
+-- how a line is read, for every claim below: its words, its row, the reasons not to read it, its numbers and bytes
 unfoldable pub Reading : Type 0
-unfolding lineSaid wordsSaid commandSaid countedSaid callSaid comment commandOf commandIn table wordsFor word wordsOf parts full grown blank sameAs ofNumber
-    ofBytes numberIn allDigits valueAfter bytesIn isHex allHex hexValue pairs isDigit between
+unfolding lineTold wordsTold commandTold rowTold judgedTold callTold comment rowOf rowIn table word wordsOf parts full grown blank sameAs theNumber theBytes
+    numberOf hexNumber hexAfter numberIn allDigits valueAfter bytesIn isHex allHex hexValue pairs isDigit between isBytes isNumber areBytes says faultBehind
+    fault wordReason reasonOf isRead unmade
 Reading = Unit {0}
 
 -- ---- parity: published frames, the starred corrections and overlays of document 01, lengths and numbers out of their ranges
@@ -117,19 +120,41 @@ unfolding Reading decimal decimalIn signedDecimal eleven feetBy25 grayValue eigh
     feet.answerText feetText
 feet-lines = (refl, refl, refl, refl, refl, refl, refl)
 
--- ---- lines that cannot be read, aircraft's lines before any model, and lines that print nothing
+-- ---- the numbers of answers: each with its meaning, and one that has none
+explained :
+    Prints "explain 0" "0 done\n"
+    × Prints "explain 1" "0 a message not of 7 or 14 bytes, or a buffer not as long as the message\n"
+    × Prints "explain 10" "0 the reply starts outside the entry's limits\n"
+    × Prints "explain 0x12" "0 an altitude pattern that the 100 ft code does not have\n"
+    × Prints "explain 19" "2\n"
+unfolding Reading doneText refusalText decimal decimalIn meanings meaningText explainText
+explained = (refl, refl, refl, refl, refl)
+
+-- ---- why a line is not read: each reason before the next, and of the words the first at fault; and lines that print nothing
 unread-lines :
-    Prints "unknown" "?\n"
-    × Prints "Remainder 00000000000000" "?\n"
-    × Prints "overlay" "?\n"
-    × Prints "overlay 1 2" "?\n"
-    × Prints "overlay 1A" "?\n"
-    × Prints "overlay 00000000001" "?\n"
-    × Prints "remainder 0" "?\n"
-    × Prints "state" "?\n"
-    × Prints "queue 20466D72D75DA0" "?\n"
-    × Prints "send 0 0 5808000024E102" "?\n"
+    Prints "unknown" "? no such line\n"
+    × Prints "Remainder 00000000000000" "? no such line\n"
+    × Prints "overlay" "? words wanted: 1\n"
+    × Prints "overlay 1 2" "? words wanted: 1\n"
+    × Prints "build 4 0 0 0 0 00000000000000" "? words wanted: 7\n"
+    × Prints "state 1" "? words wanted: 0\n"
+    × Prints "send 0 0" "? words wanted: 3\n"
+    × Prints "state" "? no aircraft\n"
+    × Prints "queue x" "? no aircraft\n"
+    × Prints "send 0 0 5808000024E102" "? no aircraft\n"
+    × Prints "overlay 1A" "? word 1 is no number\n"
+    × Prints "overlay 00000000001" "? word 1 is no number\n"
+    × Prints "overlay 0x" "? word 1 is no number\n"
+    × Prints "remainder 0" "? word 1 is no bytes\n"
+    × Prints "correct 0 0 x x" "? word 1 is no bytes\n"
+    × Prints "correct 00 0 x x" "? word 2 is no bytes\n"
+    × Prints "correct 00 00 x x" "? word 3 is no number\n"
+    × Prints "correct 00 00 0 x" "? word 4 is no number\n"
+    × Prints "code 00 0 x" "? words wanted: 4\n"
+    × Prints "quit now" "? words wanted: 0\n"
+    × Prints "quit" ""
     × Prints "" ""
     × Prints "  # remainder" ""
-unfolding Reading answerText doneText refusalText decimal decimalIn hexIn hexOf hexDigit overlayText remainderText unmade whenMade stateSaid queueSaid sendSaid
-unread-lines = (refl, refl, refl, refl, refl, refl, refl, refl, refl, refl, refl, refl)
+unfolding Reading decimal decimalIn reasonText
+unread-lines =
+    (refl, refl, refl, refl, refl, refl, refl, refl, refl, refl, refl, refl, refl, refl, refl, refl, refl, refl, refl, refl, refl, refl, refl)

@@ -1,20 +1,19 @@
 -- The text of every line without a state fits 512 bytes.
-use Prim.Native.Nat.{ℕ, _≤_, _<_}
+use Prim.Native.Nat.{ℕ, zero, suc, _≤_, _<_}
 use native.Mathlib.Omega.{arith}
 use mathlib.Core.Path.{_≡_, refl}
 use mathlib.Core.Bool.{Bool, true, false}
 use mathlib.Core.List.{List, [], _∷_, _++_}
 use mathlib.Core.Option.{Option, some, none}
-use lib.Dec.{eqb}
-use lib.ListN.{length, take, drop, replicate, length-append, length-take, length-replicate}
+use lib.Dec.{eqb, ltb}
+use lib.ListN.{length, getD, take, drop, replicate, length-append, length-take, length-replicate}
 use Rattle.lists.specs.Lists.{pick, All}
 use Rattle.lists.specs.Checks.{check, checked}
 use Rattle.lists.specs.Answers.{Answer, done, refusal, refusedBy}
 use Rattle.lists.proofs.Checks.{whichever}
+use Rattle.text_rules.specs.Put.{decimal}
 use Rattle.text_rules.specs.Line.{sameAs}
 use Rattle.text_rules.specs.Hex.{bytesIn}
-use Rattle.text_rules.specs.declared.answer.Number.{Number}
-use Rattle.text_rules.specs.declared.answer.Number.the-variants.{Is, Not}
 use Rattle.text_rules.proofs.Decimal.{decimal-length}
 use Rattle.text_rules.proofs.HexMade.{hex-length, hex-of-length}
 use Rattle.text_rules.proofs.HexRead.{bytes-fit}
@@ -33,39 +32,34 @@ use Rattle.frames_rules.specs.Frames.{front, sealed, framed}
 use Rattle.frames_rules.specs.Building.{selective, allCall, buildingChecks, building, allCallingChecks, allCalling}
 use Rattle.frames_rules.specs.Codes.{codeOfChecks, codeOf}
 use Rattle.frames_rules.specs.Reading.{formatOf, readChecks, readAs, allCallRead, selectiveRead, allCallReplyRead, surveillanceRead, mbPart}
-use Rattle.console_rules.specs.Texts.{unread, word, numberWord, ofNumber, ofBytes, withNumber, withBytes, doneText, refusalText, answerText}
+use Rattle.console_rules.specs.Texts.{word, theBytes, numberAt, bytesAt, doneText, refusalText, answerText}
 use Rattle.console_rules.specs.Parity.{reckonedText, correctedText, remainderText, overlayText, fixedText, correctText}
 use Rattle.console_rules.specs.Building.{builtText, selectiveText, buildText, allCallText}
 use Rattle.console_rules.specs.Frames.{numberText, numbersText, fieldsText, endText, valuesText, readText, interrogationText, replyText, upText}
 use Rattle.console_rules.specs.Frames.{downText, codeWord, whoseText, codeText}
 use Rattle.console_rules.specs.Feet.{feetText}
+use Rattle.console_rules.specs.Explain.{meanings, meaningText, explainText}
+use Rattle.console_rules.specs.declared.names.Reason.the-variants.{Wanted, NoNumber, NoBytes}
+use Rattle.console_rules.specs.Reasons.{reasonText}
 
 -- the size of the buffer that the program lends
 abbrev pub room : ℕ
 room = 512
 
--- ---- a text that is one of two, or stands behind a reading
+-- ---- a text that is one of two, and what a word says
 
 pub either-fits : (t : Bool) (a b : List ℕ) {n : ℕ} → length a ≤ n → length b ≤ n → length (pick t a b) ≤ n
 either-fits true a b h k = h
 either-fits false a b h k = k
 
-pub unread-fits : length unread ≤ room
-unread-fits = omega arith
+-- a word says at most 32 bytes
+bytes-by : (w : List ℕ) (o : Option (List ℕ)) → bytesIn w ≡ o → length (theBytes o) ≤ 32
+unfolding theBytes
+bytes-by w (some bs) e = bytes-fit w bs e
+bytes-by w none e = omega arith
 
-pub with-number-fits : (a : Number) (f : ℕ → List ℕ) → ((n : ℕ) → length (f n) ≤ room) → length (withNumber a f) ≤ room
-unfolding ofNumber
-with-number-fits (Is n) f h = h n
-with-number-fits Not f h = unread-fits
-
-bytes-by : (w : List ℕ) (o : Option (List ℕ)) (f : List ℕ → List ℕ) → bytesIn w ≡ o → ((bs : List ℕ) → length bs ≤ 32 → length (f bs) ≤ room)
-    → length (withBytes o f) ≤ room
-unfolding ofBytes
-bytes-by w (some bs) f e h = h bs (bytes-fit w bs e)
-bytes-by w none f e h = unread-fits
-
-pub with-bytes-fits : (w : List ℕ) (f : List ℕ → List ℕ) → ((bs : List ℕ) → length bs ≤ 32 → length (f bs) ≤ room) → length (withBytes (bytesIn w) f) ≤ room
-with-bytes-fits w f h = bytes-by w (bytesIn w) f refl h
+pub bytes-short : (k : ℕ) (ws : List (List ℕ)) → length (bytesAt k ws) ≤ 32
+bytes-short k ws = bytes-by (word k ws) (bytesIn (word k ws)) refl
 
 -- ---- the text of an answer
 
@@ -222,62 +216,87 @@ all-call-fits pr ic cl =
 altitude-fits : (ac : ℕ) → length (feet-lines.answerText (altitude ac)) ≤ room
 altitude-fits ac = omega (arith, answer-short ac)
 
+-- ---- a meaning
+
+each-fits : (l : List (List ℕ)) (n : ℕ) → All (λ (t : List ℕ). length t ≤ 500) l → length (getD l n []) ≤ 500
+unfolding All
+each-fits [] n h = omega arith
+each-fits (t ∷ l) zero h = h .0
+each-fits (t ∷ l) (suc n) h = each-fits l n (h .1)
+
+meanings-fit : All (λ (t : List ℕ). length t ≤ 500) meanings
+unfolding All meanings
+meanings-fit = search arith depth 64
+
+refusal-short : (n : ℕ) → n ≤ 17 → length (refusalText n) ≤ room
+unfolding refusalText
+refusal-short n h = simp length-append (omega (arith, decimal-length 1 n (omega arith)))
+
+done-fits : (t : List ℕ) → length t ≤ 500 → length (doneText t) ≤ room
+unfolding doneText
+done-fits t h = simp length-append (omega arith)
+
+meaning-fits : (n : ℕ) → length (meaningText n) ≤ room
+unfolding meaningText
+meaning-fits n = either-fits (ltb n (length meanings)) _ _ (done-fits _ (each-fits meanings _ meanings-fit)) (refusal-short 2 (omega arith))
+
+-- ---- the reasons
+
+module _ (n : ℕ) (h : n < 256) where
+  three-digits : length (decimal n) ≤ 3
+  three-digits = decimal-length 2 n (omega arith)
+
+  pub wanted-fits : length (reasonText (Wanted n)) ≤ room
+  unfolding reasonText
+  wanted-fits = simp length-append (omega (arith, three-digits))
+
+  pub no-number-fits : length (reasonText (NoNumber n)) ≤ room
+  unfolding reasonText
+  no-number-fits = simp length-append (omega (arith, three-digits))
+
+  pub no-bytes-fits : length (reasonText (NoBytes n)) ≤ room
+  unfolding reasonText
+  no-bytes-fits = simp length-append (omega (arith, three-digits))
+
 -- ---- the lines
 
 module _ (ws : List (List ℕ)) where
   pub remainder-fits : length (remainderText ws) ≤ room
   unfolding remainderText
-  remainder-fits =
-      with-bytes-fits (word 1 ws) _ (λ msg h. reckoned-fits _ (remainder-number msg))
+  remainder-fits = reckoned-fits _ (remainder-number _)
 
   pub overlay-fits : length (overlayText ws) ≤ room
   unfolding overlayText
-  overlay-fits =
-      with-number-fits (numberWord 1 ws) _ (λ address. reckoned-fits _ (overlay-number address))
+  overlay-fits = reckoned-fits _ (overlay-number _)
 
   pub correct-fits : length (correctText ws) ≤ room
   unfolding correctText
-  correct-fits =
-      with-bytes-fits (word 1 ws) _ (λ msg h.
-      with-bytes-fits (word 2 ws) _ (λ marks k.
-      with-number-fits (numberWord 3 ws) _ (λ overlay.
-      with-number-fits (numberWord 4 ws) _ (λ limit. fixed-fits _ _ _ _ h))))
+  correct-fits = fixed-fits _ _ _ _ (bytes-short 1 ws)
 
   pub build-fits : length (buildText ws) ≤ room
   unfolding buildText
-  build-fits =
-      with-number-fits (numberWord 1 ws) _ (λ uf.
-      with-number-fits (numberWord 2 ws) _ (λ pc.
-      with-number-fits (numberWord 3 ws) _ (λ rr.
-      with-number-fits (numberWord 4 ws) _ (λ di.
-      with-number-fits (numberWord 5 ws) _ (λ sd.
-      with-bytes-fits (word 6 ws) _ (λ ma h.
-      with-number-fits (numberWord 7 ws) _ (λ address. selective-fits _ _ _ _ _ _ _)))))))
+  build-fits = selective-fits _ _ _ _ _ _ _
 
   pub all-call-frame-fits : length (allCallText ws) ≤ room
   unfolding allCallText
-  all-call-frame-fits =
-      with-number-fits (numberWord 1 ws) _ (λ pr.
-      with-number-fits (numberWord 2 ws) _ (λ ic.
-      with-number-fits (numberWord 3 ws) _ (λ cl. all-call-fits _ _ _)))
+  all-call-frame-fits = all-call-fits _ _ _
 
   pub up-fits : length (upText ws) ≤ room
   unfolding upText
-  up-fits = with-bytes-fits (word 1 ws) interrogationText (λ msg h. interrogation-fits msg)
+  up-fits = interrogation-fits _
 
   pub down-fits : length (downText ws) ≤ room
   unfolding downText
-  down-fits = with-bytes-fits (word 1 ws) replyText (λ msg h. reply-fits msg)
+  down-fits = reply-fits _
 
   pub code-fits : length (codeText ws) ≤ room
   unfolding codeText
-  code-fits =
-      with-bytes-fits (word 1 ws) _ (λ msg h.
-      with-number-fits (numberWord 2 ws) _ (λ cl.
-      with-number-fits (numberWord 3 ws) _ (λ ic.
-      with-number-fits (numberWord 4 ws) _ (λ permit. whose-fits _ _ _ _))))
+  code-fits = whose-fits _ _ _ _
 
   pub feet-fits : length (feetText ws) ≤ room
   unfolding feetText
-  feet-fits =
-      with-number-fits (numberWord 1 ws) _ (λ ac. altitude-fits _)
+  feet-fits = altitude-fits _
+
+  pub explain-fits : length (explainText ws) ≤ room
+  unfolding explainText
+  explain-fits = meaning-fits _

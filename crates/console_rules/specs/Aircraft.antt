@@ -3,15 +3,13 @@ use Prim.Native.Nat.{ℕ, suc, _-_, _≤_}
 use mathlib.Core.Path.{_≡_}
 use mathlib.Core.Bool.{true, false}
 use mathlib.Core.List.{List, [], _∷_, _++_}
-use mathlib.Core.Option.{Option}
 use lib.Dec.{eqb, ltb}
 use lib.ListN.{length, take}
 use Rattle.lists.specs.Lists.{pick}
 use Rattle.text_rules.specs.Put.{Put, decimal}
 use Rattle.text_rules.specs.Plain.{plain}
 use Rattle.text_rules.specs.Hex.{hexOf}
-use Rattle.text_rules.specs.declared.answer.Number.{Number}
-use Rattle.console_rules.specs.Texts.{numberWord, bytesAt, unread, ofNumber, ofBytes, doneText, refusalText, answerText}
+use Rattle.console_rules.specs.Texts.{numberAt, bytesAt, doneText, refusalText, answerText}
 use Rattle.model_rules.specs.declared.state.Lock.{Lock}
 use Rattle.model_rules.specs.declared.state.Timer.{Timer}
 use Rattle.model_rules.specs.declared.state.Holder.{Holder}
@@ -28,7 +26,7 @@ use Rattle.console_rules.specs.declared.state.Shown.{Shown}
 
 -- ---- the aircraft
 
--- before any model; its transponder of zeros is of no use
+-- before any model; its transponder of zeros is of no use, and no line is read that needs it
 unfoldable pub unmade : Aircraft
 unmade = record { made = false; transponder = newborn 0 0 0 0 0 }
 
@@ -48,51 +46,21 @@ pub record Showed (s : Said) (before after : List ℕ) (r : Shown) : Type 0 wher
   pub aircraft : r .aircraft ≡ s .aircraft
   pub short : length (s .text) ≤ 512
 
--- such a text alone
-pub record Brief (t before after : List ℕ) (r : ℕ) : Type 0 where
-  pub text-put : Put t 0 before after r
-  pub short : length t ≤ 512
-
 -- the one with this text and this aircraft
 abbrev pub saying : List ℕ → Aircraft → Said
 saying t a = record { text = t; aircraft = a }
-
--- a line that cannot be read leaves the aircraft as it was
-abbrev pub unreadSaid : Aircraft → Said
-unreadSaid a = saying unread a
 
 -- a call's number alone, 0 or the refusal's
 abbrev pub numberSaid : ℕ → Aircraft → Said
 numberSaid n a = saying (refusalText n) a
 
--- a word that is no number, or no bytes, where they belong cannot be read
-abbrev pub saidWithNumber : Aircraft → Number → (ℕ → Said) → Said
-saidWithNumber a n said = ofNumber (unreadSaid a) n said
-
-abbrev pub saidWithBytes : Aircraft → Option (List ℕ) → (List ℕ → Said) → Said
-saidWithBytes a bs said = ofBytes (unreadSaid a) bs said
-
--- before any model the line cannot be read
-unfoldable pub whenMade : Aircraft → Said → Said
-whenMade a said = pick (a .made) said (unreadSaid a)
-
 -- ---- `model`: "from then on this is the aircraft"; a refused one leaves the aircraft as it was
 unfoldable pub madeSaid : Aircraft → Made → Said
 madeSaid a m = numberSaid (m .number) (pick (eqb (m .number) 0) (flying (m .transponder)) a)
 
--- FS and CA, the last of the five numbers of the line
-abbrev pub modelMore : Aircraft → ℕ → ℕ → ℕ → List (List ℕ) → Said
-modelMore a address ac id ws =
-    saidWithNumber a (numberWord 4 ws) (λ fs.
-    saidWithNumber a (numberWord 5 ws) (λ ca.
-    madeSaid a (making address ac id fs ca)))
-
+-- the five numbers of the line
 unfoldable pub modelSaid : Aircraft → List (List ℕ) → Said
-modelSaid a ws =
-    saidWithNumber a (numberWord 1 ws) (λ address.
-    saidWithNumber a (numberWord 2 ws) (λ ac.
-    saidWithNumber a (numberWord 3 ws) (λ id.
-    modelMore a address ac id ws)))
+modelSaid a ws = madeSaid a (making (numberAt 1 ws) (numberAt 2 ws) (numberAt 3 ws) (numberAt 4 ws) (numberAt 5 ws))
 
 -- ---- `queue`
 -- the number of the queuing, and the aircraft with what it has left
@@ -101,7 +69,7 @@ queuedSaid q = numberSaid (q .number) (flying (q .transponder))
 
 -- the message of the line
 unfoldable pub queueSaid : Aircraft → List (List ℕ) → Said
-queueSaid a ws = whenMade a (saidWithBytes a (bytesAt 1 ws) (λ message. queuedSaid (queuing (a .transponder) message)))
+queueSaid a ws = queuedSaid (queuing (a .transponder) (bytesAt 1 ws))
 
 -- ---- `send`
 -- the bytes of a reply, or `-` where there is none
@@ -113,17 +81,9 @@ sentText (b ∷ bs) = hexOf (b ∷ bs)
 unfoldable pub tookSaid : Took → Said
 tookSaid k = saying (answerText (k .number) (sentText (take (k .length) (k .reply)))) (flying (k .transponder))
 
--- the frame of the line, sent at a time with a draw
-abbrev pub frameSaid : Aircraft → ℕ → ℕ → List (List ℕ) → Said
-frameSaid a time draw ws = saidWithBytes a (bytesAt 3 ws) (λ frame. tookSaid (taking (a .transponder) time draw frame))
-
 -- the time, the draw and the frame of the line
 unfoldable pub sendSaid : Aircraft → List (List ℕ) → Said
-sendSaid a ws =
-    whenMade a
-    (saidWithNumber a (numberWord 1 ws) (λ time.
-    saidWithNumber a (numberWord 2 ws) (λ draw.
-    frameSaid a time draw ws)))
+sendSaid a ws = tookSaid (taking (a .transponder) (numberAt 1 ws) (numberAt 2 ws) (bytesAt 3 ws))
 
 -- ---- `state`
 -- the holder's II, or `-` for nobody
@@ -157,4 +117,4 @@ stateText t = shownText (t .time) (t .holder) (length (waiting (t .messages))) (
 
 -- nothing changes
 unfoldable pub stateSaid : Aircraft → Said
-stateSaid a = whenMade a (saying (stateText (a .transponder)) a)
+stateSaid a = saying (stateText (a .transponder)) a

@@ -13,7 +13,7 @@ use Rattle.frames_rules.specs.Answers.{own, matchingII}
 use Rattle.frames_rules.specs.Formats.{longFormat}
 use Rattle.frames_rules.specs.Reading.{readUp, readDown, mbPart}
 use Rattle.frames_rules.specs.Codes.{codeOf}
-use Rattle.console_rules.specs.Texts.{numberWord, bytesAt, withNumber, withBytes, answerText}
+use Rattle.console_rules.specs.Texts.{numberAt, bytesAt, answerText}
 
 -- ---- a frame that is read
 
@@ -54,10 +54,10 @@ unfoldable pub interrogationText : List ℕ → List ℕ
 interrogationText msg = readText (readUp msg) (mbPart msg)
 
 unfoldable pub upText : List (List ℕ) → List ℕ
-upText ws = withBytes (bytesAt 1 ws) interrogationText
+upText ws = interrogationText (bytesAt 1 ws)
 
 unfoldable pub downText : List (List ℕ) → List ℕ
-downText ws = withBytes (bytesAt 1 ws) replyText
+downText ws = replyText (bytesAt 1 ws)
 
 -- ---- whose code a reply carries
 
@@ -69,9 +69,4 @@ unfoldable pub whoseText : Answer → List ℕ
 whoseText a = answerText (a .number) (codeWord (a .values))
 
 unfoldable pub codeText : List (List ℕ) → List ℕ
-codeText ws =
-    withBytes (bytesAt 1 ws) (λ msg.
-    withNumber (numberWord 2 ws) (λ cl.
-    withNumber (numberWord 3 ws) (λ ic.
-    withNumber (numberWord 4 ws) (λ permit.
-    whoseText (codeOf msg cl ic permit)))))
+codeText ws = whoseText (codeOf (bytesAt 1 ws) (numberAt 2 ws) (numberAt 3 ws) (numberAt 4 ws))

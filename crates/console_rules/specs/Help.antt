@@ -1,10 +1,20 @@
 -- The line `help`.
 use Prim.Native.Nat.{ℕ}
-use mathlib.Core.List.{List}
+use mathlib.Core.List.{List, _++_}
 use Rattle.text_rules.specs.Plain.{plain}
 
--- the words of the console with what follows each, one line each
+-- the names of the lines with what follows each, one line each: parity, frames, the aircraft, and the console itself
+abbrev pub parityHelp : List ℕ
+parityHelp = plain "remainder HEX\noverlay NUMBER\ncorrect HEX MARKS OVERLAY LIMIT\n"
+
+abbrev pub framesHelp : List ℕ
+framesHelp = plain "build UF PC RR DI SD MA ADDRESS\nallcall PR IC CL\nup HEX\ndown HEX\ncode HEX CL IC PERMIT\nfeet AC\n"
+
+abbrev pub aircraftHelp : List ℕ
+aircraftHelp = plain "model ADDRESS AC ID FS CA\nqueue HEX\nsend TIME DRAW HEX\nstate\n"
+
+abbrev pub consoleHelp : List ℕ
+consoleHelp = plain "explain NUMBER\nquit\n"
+
 abbrev pub helpText : List ℕ
-helpText =
-    plain
-    "remainder HEX\noverlay NUMBER\ncorrect HEX MARKS OVERLAY LIMIT\nbuild UF PC RR DI SD MA ADDRESS\nallcall PR IC CL\nup HEX\ndown HEX\ncode HEX CL IC PERMIT\nfeet AC\nmodel ADDRESS AC ID FS CA\nqueue HEX\nsend TIME DRAW HEX\nstate\n"
+helpText = parityHelp ++ (framesHelp ++ (aircraftHelp ++ consoleHelp))

@@ -6,6 +6,8 @@ pub mod Frames
 pub mod FeetLines
 pub mod Feet
 pub mod Aircraft
+pub mod Explain
 pub mod Names
+pub mod Reasons
 pub mod Help
 pub mod Console

@@ -1,6 +1,7 @@
--- The calls of the console: the name of each, and how many words its line has.
+-- The lines of the console: the name of each, its call, and what its words are.
 use Prim.Native.Nat.{ℕ}
 use Prim.Native.String.{String}
+use mathlib.Core.Bool.{true, false}
 use mathlib.Core.List.{List, [], _∷_}
 use lib.ListN.{getD}
 use Rattle.lists.specs.Lists.{pick}
@@ -8,64 +9,61 @@ use Rattle.text_rules.specs.Line.{sameAs}
 use Rattle.text_rules.specs.Plain.{plain}
 use Rattle.console_rules.specs.declared.names.Command.{Command}
 use Rattle.console_rules.specs.declared.names.Command.the-variants.{Remainder, Overlay, Correct, Build, AllCall, Up, Down, Code, Feet, Model, Queue}
-use Rattle.console_rules.specs.declared.names.Command.the-variants.{Send, State, Help, Unknown}
+use Rattle.console_rules.specs.declared.names.Command.the-variants.{Send, State, Explain, Quit, Help, Unknown}
+use Rattle.console_rules.specs.declared.names.Row.{Row}
 
--- a call and its name
+-- a line's name, and what the line is made of
 pub record Named : Type 0 where
   pub name : List ℕ
-  pub command : Command
+  pub row : Row
 
-abbrev pub named : String → Command → Named
-named name c = record { name = plain name; command = c }
+-- a line by its name and its call, with how many words stand behind the name, and the places of those that are bytes, counted from 1, 0 for none: all others
+-- are numbers
+abbrev pub line : String → Command → ℕ → ℕ → ℕ → Named
+line name c words bytes more =
+    record { name = plain name; row = record { known = true; command = c; words = words; bytes = bytes; more = more; aircraft = false } }
 
--- the calls, each with its name
+-- one that needs an aircraft
+abbrev pub flight : String → Command → ℕ → ℕ → Named
+flight name c words bytes =
+    record { name = plain name; row = record { known = true; command = c; words = words; bytes = bytes; more = 0; aircraft = true } }
+
+-- the lines
 unfoldable pub table : List Named
 table =
-    named "remainder" Remainder ∷
-    named "overlay" Overlay ∷
-    named "correct" Correct ∷
-    named "build" Build ∷
-    named "allcall" AllCall ∷
-    named "up" Up ∷
-    named "down" Down ∷
-    named "code" Code ∷
-    named "feet" Feet ∷
-    named "model" Model ∷
-    named "queue" Queue ∷
-    named "send" Send ∷
-    named "state" State ∷
-    named "help" Help ∷ []
+    line "remainder" Remainder 1 1 0 ∷
+    line "overlay" Overlay 1 0 0 ∷
+    line "correct" Correct 4 1 2 ∷
+    line "build" Build 7 6 0 ∷
+    line "allcall" AllCall 3 0 0 ∷
+    line "up" Up 1 1 0 ∷
+    line "down" Down 1 1 0 ∷
+    line "code" Code 4 1 0 ∷
+    line "feet" Feet 1 0 0 ∷
+    line "model" Model 5 0 0 ∷
+    flight "queue" Queue 1 1 ∷
+    flight "send" Send 3 3 ∷
+    flight "state" State 0 0 ∷
+    line "explain" Explain 1 0 0 ∷
+    line "quit" Quit 0 0 0 ∷
+    line "help" Help 0 0 0 ∷ []
 
 -- how many they are
 abbrev pub rowCount : ℕ
-rowCount = 14
+rowCount = 16
 
--- the call that a word names, by the first of the rows with that name; an unknown one where there is none
-unfoldable pub commandIn : List ℕ → List Named → Command
-commandIn w [] = Unknown
-commandIn w (n ∷ ns) = pick (sameAs w (n .name)) (n .command) (commandIn w ns)
+-- where there is none
+abbrev pub noRow : Row
+noRow = record { known = false; command = Unknown; words = 0; bytes = 0; more = 0; aircraft = false }
 
-unfoldable pub commandOf : List ℕ → Command
-commandOf w = commandIn w table
+-- the line that a word names, by the first of the rows with that name
+unfoldable pub rowIn : List ℕ → List Named → Row
+rowIn w [] = noRow
+rowIn w (n ∷ ns) = pick (sameAs w (n .name)) (n .row) (rowIn w ns)
+
+unfoldable pub rowOf : List ℕ → Row
+rowOf w = rowIn w table
 
 -- the k-th row, from 0; behind the last one a row without a name
 unfoldable pub rowAt : ℕ → Named
-rowAt k = getD table k (named "" Unknown)
-
--- how many words a line of the call has, its name among them
-unfoldable pub wordsFor : Command → ℕ
-wordsFor Remainder = 2
-wordsFor Overlay = 2
-wordsFor Correct = 5
-wordsFor Build = 8
-wordsFor AllCall = 4
-wordsFor Up = 2
-wordsFor Down = 2
-wordsFor Code = 5
-wordsFor Feet = 2
-wordsFor Model = 6
-wordsFor Queue = 2
-wordsFor Send = 4
-wordsFor State = 1
-wordsFor Help = 1
-wordsFor Unknown = 0
+rowAt k = getD table k (record { name = []; row = noRow })

@@ -10,7 +10,7 @@ use Rattle.parity_rules.specs.Answers.{Correction}
 use Rattle.parity_rules.specs.Division.{remainderAnswer}
 use Rattle.parity_rules.specs.Overlays.{uplinkOverlay}
 use Rattle.parity_rules.specs.Correction.{correction}
-use Rattle.console_rules.specs.Texts.{numberWord, bytesAt, withNumber, withBytes, answerText}
+use Rattle.console_rules.specs.Texts.{numberAt, bytesAt, answerText}
 
 -- a remainder or an overlay has six digits
 unfoldable pub reckonedText : Answer → List ℕ
@@ -21,19 +21,14 @@ unfoldable pub correctedText : Correction → List ℕ
 correctedText o = answerText (o .number) (hexOf (o .output) ++ (plain " " ++ decimal (o .flips)))
 
 unfoldable pub remainderText : List (List ℕ) → List ℕ
-remainderText ws = withBytes (bytesAt 1 ws) (λ msg. reckonedText (remainderAnswer msg))
+remainderText ws = reckonedText (remainderAnswer (bytesAt 1 ws))
 
 unfoldable pub overlayText : List (List ℕ) → List ℕ
-overlayText ws = withNumber (numberWord 1 ws) (λ address. reckonedText (uplinkOverlay address))
+overlayText ws = reckonedText (uplinkOverlay (numberAt 1 ws))
 
 -- a correction whose output buffer is lent as long as the message
 unfoldable pub fixedText : List ℕ → List ℕ → ℕ → ℕ → List ℕ
 fixedText msg marks overlay limit = correctedText (correction msg marks overlay limit (replicate (length msg) 0))
 
 unfoldable pub correctText : List (List ℕ) → List ℕ
-correctText ws =
-    withBytes (bytesAt 1 ws) (λ msg.
-    withBytes (bytesAt 2 ws) (λ marks.
-    withNumber (numberWord 3 ws) (λ overlay.
-    withNumber (numberWord 4 ws) (λ limit.
-    fixedText msg marks overlay limit))))
+correctText ws = fixedText (bytesAt 1 ws) (bytesAt 2 ws) (numberAt 3 ws) (numberAt 4 ws)

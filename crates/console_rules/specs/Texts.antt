@@ -1,59 +1,45 @@
 -- What a line's words say, and the text of an answer; shared by all lines of the console.
-use Prim.Native.Nat.{ℕ}
+use Prim.Native.Nat.{ℕ, _≤_}
+use mathlib.Core.Path.{_≡_}
 use mathlib.Core.List.{List, [], _++_}
 use mathlib.Core.Option.{Option, some, none}
-use mathlib.Core.Bool.{Bool}
-use lib.Dec.{eqb, ltb}
+use lib.Dec.{eqb}
 use lib.ListN.{length, getD}
 use Rattle.lists.specs.Lists.{pick}
-use Rattle.text_rules.specs.Put.{decimal}
+use Rattle.text_rules.specs.Put.{laid, Put, decimal}
 use Rattle.text_rules.specs.Plain.{plain}
-use Rattle.text_rules.specs.Number.{numberIn}
+use Rattle.text_rules.specs.Bases.{numberOf}
 use Rattle.text_rules.specs.Hex.{bytesIn}
 use Rattle.text_rules.specs.declared.answer.Number.{Number}
 use Rattle.text_rules.specs.declared.answer.Number.the-variants.{Is, Not}
 
 -- ---- read
 
--- a line that cannot be read
-abbrev pub unread : List ℕ
-unread = plain "?\n"
-
--- for a line that is longer than 1000 bytes, which is not read
-abbrev pub tooLong : List ℕ
-tooLong = plain "? longer than 1000 bytes\n"
-
-abbrev pub isTooLong : List ℕ → Bool
-isTooLong line = ltb 1000 (length line)
-
--- the k-th word, from 0; the empty one where there is none
+-- the k-th word, from 0, which is the name; the empty one where there is none
 unfoldable pub word : ℕ → List (List ℕ) → List ℕ
 word k ws = getD ws k []
 
--- the number that the k-th word says, of at most ten digits
-abbrev pub numberWord : ℕ → List (List ℕ) → Number
-numberWord k ws = numberIn 10 (word k ws)
+-- the number that a word says; 0 for a word that says none, whose line is not read
+unfoldable pub theNumber : Number → ℕ
+theNumber (Is n) = n
+theNumber Not = 0
 
--- the bytes that the k-th word says
-abbrev pub bytesAt : ℕ → List (List ℕ) → Option (List ℕ)
-bytesAt k ws = bytesIn (word k ws)
+-- the bytes that a word says; none for a word that says none, whose line is not read
+unfoldable pub theBytes : Option (List ℕ) → List ℕ
+theBytes (some bs) = bs
+theBytes none = []
 
--- what is made of the number that a word says, or what stands for a word that is none
-unfoldable pub ofNumber : {A : Type 0} → A → Number → (ℕ → A) → A
-ofNumber other (Is n) said = said n
-ofNumber other Not said = other
+-- the number, and the bytes, of the k-th word
+abbrev pub numberAt : ℕ → List (List ℕ) → ℕ
+numberAt k ws = theNumber (numberOf (word k ws))
 
--- what is made of the bytes that a word says, or what stands for a word that is none
-unfoldable pub ofBytes : {A : Type 0} → A → Option (List ℕ) → (List ℕ → A) → A
-ofBytes other (some bs) said = said bs
-ofBytes other none said = other
+abbrev pub bytesAt : ℕ → List (List ℕ) → List ℕ
+bytesAt k ws = theBytes (bytesIn (word k ws))
 
--- a word that is no number, or no bytes, where they belong cannot be read
-abbrev pub withNumber : Number → (ℕ → List ℕ) → List ℕ
-withNumber n text = ofNumber unread n text
-
-abbrev pub withBytes : Option (List ℕ) → (List ℕ → List ℕ) → List ℕ
-withBytes bs text = ofBytes unread bs text
+-- a call laid the bytes of the k-th word at the front of a buffer, and answered how many they are
+pub record BytesAt (k : ℕ) (ws : List (List ℕ)) (before after : List ℕ) (r : ℕ) : Type 0 where
+  pub answer : r ≡ length (bytesAt k ws)
+  pub buffer : after ≡ laid (bytesAt k ws) 0 before
 
 -- ---- printed
 
@@ -68,3 +54,8 @@ refusalText n = decimal n ++ plain "\n"
 -- a call's answer: its number, with the value where that is 0
 unfoldable pub answerText : ℕ → List ℕ → List ℕ
 answerText n value = pick (eqb n 0) (doneText value) (refusalText n)
+
+-- the text was laid at the front of a buffer, and is at most the 512 bytes that the program lends
+pub record Brief (t before after : List ℕ) (r : ℕ) : Type 0 where
+  pub text-put : Put t 0 before after r
+  pub short : length t ≤ 512

@@ -1,9 +1,13 @@
-// The console's aircraft, its calls, and what a line answers.
+// The console's bench, its lines, and what a line answers.
 // What each line of the console says stands in specs/, and what holds of every line and run in proofs/; the calls are in crates
 // console_plain, console_aircraft and console_lines.
 mod names;
 mod state;
 
 pub use names::Command;
+pub use names::Reason;
+pub use names::Row;
 pub use state::Aircraft;
+pub use state::Answered;
+pub use state::Bench;
 pub use state::Shown;

@@ -1,4 +1,4 @@
-// The calls of the console.
+// The lines of the console: their calls, and what each is made of.
 
 // A call of the console.
 pub enum Command {
@@ -15,6 +15,29 @@ pub enum Command {
     Queue,
     Send,
     State,
+    Explain,
+    Quit,
     Help,
     Unknown,
+}
+
+// A line: whether there is one of its name, its call, how many words stand behind the name, which of them are bytes (two at most, 0 for
+// none; all others are numbers), and whether it needs an aircraft.
+pub struct Row {
+    pub known: bool,
+    pub command: Command,
+    pub words: u8,
+    pub bytes: u8,
+    pub more: u8,
+    pub aircraft: bool,
+}
+
+// Why a line is not read, or that it is: the words wanted behind the name, or the number of the word at fault.
+pub enum Reason {
+    Read,
+    NoSuchLine,
+    Wanted(u8),
+    NoAircraft,
+    NoNumber(u8),
+    NoBytes(u8),
 }

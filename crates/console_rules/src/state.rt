@@ -1,4 +1,4 @@
-// The aircraft of the console, and what a line that may change it answers.
+// What the console has on its bench, and what a line that may change it answers.
 use model_rules::Transponder;
 
 // Whether an aircraft was made, and its transponder, which is of no use before.
@@ -7,8 +7,20 @@ pub struct Aircraft {
     pub transponder: Transponder,
 }
 
-// A line was answered: how many bytes of text stand in the lent buffer, and the aircraft afterwards.
+// A line of the aircraft was answered: how many bytes of text stand in the lent buffer, and the aircraft afterwards.
 pub struct Shown {
     pub size: usize,
     pub aircraft: Aircraft,
+}
+
+// The aircraft, and whether the console was quit.
+pub struct Bench {
+    pub aircraft: Aircraft,
+    pub over: bool,
+}
+
+// A line was answered: how many bytes of text stand in the lent buffer, and the bench afterwards.
+pub struct Answered {
+    pub size: usize,
+    pub bench: Bench,
 }

@@ -1,6 +1,9 @@
-// The program jerungkal: the first 64 KiB of standard input are the stream, and its transcript is printed.
-use libc::STDIN_FILENO;
+// The program jerungkal: the first 64 KiB of its input are the stream, and its transcript is printed.
 
 fn main() {
-    stream_lines::print_lines(STDIN_FILENO);
+    let fd = inputs::open();
+    if fd < 0 {
+        return;
+    }
+    stream_lines::print_lines(fd);
 }

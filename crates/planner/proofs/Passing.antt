@@ -67,7 +67,10 @@ module _ (L : ℕ) (limits : List ℕ) where
   rest-step x a w = go (tried L (share limits (a .request .unit)) (x .placed) a)
     where
       go : (s : Place)
-          → glue (x .waiting) (elim s as (λ _. Board) [ At t ↦ pass L limits (x .placed ++ (entryAt a t ∷ [])) w | Nowhere ↦ stays a (pass L limits (x .placed) w) ])
+          → glue (x .waiting) (elim s as (λ _. Board) [
+            | At t ↦ pass L limits (x .placed ++ (entryAt a t ∷ [])) w
+            | Nowhere ↦ stays a (pass L limits (x .placed) w)
+          ])
           ≡ rest (settled s a x) w
       go (At t) = refl
       go Nowhere =

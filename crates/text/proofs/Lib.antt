@@ -2,6 +2,8 @@
 mod Kit
 mod Sizes
 mod HexLoops
+mod HexNumbers
 mod Values
 mod Nth
+mod NthLine
 mod Ends

@@ -1,7 +1,10 @@
-// The words of a line by their number.
+// The words of a line and the lines of a text by their number.
 ghost use mathlib.Core.Path.{_≡_};
 ghost use lib.ListN.{length};
-ghost use Rattle.text_rules.specs.Line.{wordsOf, NthWord};
+ghost use Rattle.text_rules.specs.Line.{wordsOf, NthWord, NthLine};
+use crate::line::line_after;
+use crate::line::line_at;
+use crate::line::line_end;
 use crate::line::word;
 use text_rules::Span;
 
@@ -29,4 +32,17 @@ pub fn word_count(line: &[u8]) -> usize
         w = word(line, w.to);
     }
     n
+}
+
+// The k-th line of a text, from 0; an empty span where there is none.
+pub fn nth_line(s: &[u8], k: usize) -> Span
+    ensures { λ r. ⌜ NthLine (now (s .entry)) k r ⌝ }
+{
+    let mut at: usize = 0;
+    let mut i: usize = 0;
+    while i < k {
+        at = line_after(s, line_end(s, at));
+        i += 1;
+    }
+    line_at(s, at)
 }

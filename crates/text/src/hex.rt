@@ -91,7 +91,7 @@ pub fn hex_bytes(word: &[u8], out: &mut [u8; 32]) -> Hex
 }
 
 // Every byte of the word is a hex digit.
-fn all_hex(word: &[u8]) -> bool
+pub(crate) fn all_hex(word: &[u8]) -> bool
     ensures { λ r. ⌜ r ≡ allHex (now (word .entry)) ⌝ }
 {
     let mut i: usize = 0;
@@ -119,7 +119,7 @@ fn fill(word: &[u8], out: &mut [u8; 32], n: usize)
 }
 
 // What a hex digit counts; 16 for any other byte.
-fn hex_value(b: u8) -> u8
+pub(crate) fn hex_value(b: u8) -> u8
     ensures { λ r. ⌜ r ≡ hexValue b ⌝ }
 {
     if b < 48 {

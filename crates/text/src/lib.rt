@@ -1,4 +1,5 @@
 // Lines of text: words, numbers and bytes read from a line, and decimal and hex laid into a lent buffer. The definitions stand in crate text_rules.
+mod bases;
 mod count;
 mod hex;
 mod line;
@@ -7,6 +8,8 @@ mod pieces;
 mod put;
 mod signed;
 
+pub use bases::number_of;
+pub use count::nth_line;
 pub use count::nth_word;
 pub use count::word_count;
 pub use hex::hex_bytes;

@@ -13,6 +13,7 @@ use Rattle.text_rules.specs.Line.{blank, inWord, newline, inLine, grown,
 use Rattle.text_rules.specs.Line.{lineEnd, lineAfter, lineAt, lineSpan, wordAt, nthAt, within, NthWord}
 use Rattle.text_rules.specs.Number.{between, isDigit, allDigits, valueAfter, numberIn}
 use Rattle.text_rules.specs.Hex.{hexDigit, hexIn, hexOf, hexValue, allHex, pairs, isHex, bytesIn}
+use Rattle.text_rules.specs.Bases.{hexAfter, hexNumber, numberOf}
 use Rattle.text_rules.specs.Plain.{plain}
 use Rattle.text_rules.specs.declared.answer.Number.the-variants.{Is, Not}
 
@@ -127,6 +128,13 @@ digits = (refl, refl, refl, refl)
 two-to-the-32 : (numberIn 10 (plain "4294967295") ≡ Is 4294967295) × (numberIn 10 (plain "4294967296") ≡ Not)
 unfolding numberIn allDigits isDigit between valueAfter
 two-to-the-32 = (refl, refl)
+
+-- decimal without a sign before it, hex behind `0x`, of either case, one to eight digits
+in-either-base : (numberOf (plain "4294967295") ≡ Is 4294967295) × (numberOf (plain "0") ≡ Is 0) × (numberOf (plain "0x484fDE") ≡ Is 4739038)
+    × (numberOf (plain "0x10") ≡ Is 16) × (numberOf (plain "0xFFFFFFFF") ≡ Is 4294967295) × (numberOf (plain "0x000000001") ≡ Not)
+    × (numberOf (plain "0x") ≡ Not) × (numberOf (plain "0xG") ≡ Not) × (numberOf (plain "0X1") ≡ Not) × (numberOf (plain "FF") ≡ Not)
+unfolding numberOf hexNumber hexAfter hexValue allHex sameAs numberIn allDigits isDigit between valueAfter
+in-either-base = (refl, refl, refl, refl, refl, refl, refl, refl, refl, refl)
 
 -- ---- bytes
 

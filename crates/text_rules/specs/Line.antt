@@ -120,3 +120,9 @@ pub record NthWord (line : List ℕ) (k : ℕ) (r : Span) : Type 0 where
   pub text : within line r ≡ getD (wordsOf line) k []
   pub order : r .from ≤ r .to
   pub fits : r .to ≤ length line
+
+-- the k-th line of a text, from 0: the empty one where there is none
+pub record NthLine (s : List ℕ) (k : ℕ) (r : Span) : Type 0 where
+  pub text : within s r ≡ getD (linesOf s) k []
+  pub order : r .from ≤ r .to
+  pub fits : r .to ≤ length s

@@ -1,33 +1,25 @@
--- `put_model` reads three numbers in turn, and hands them on to what reads the others.
+-- `put_model` reads five numbers, and has the aircraft made of them.
+use Rattle.console_aircraft.proofs.making.put_made.Reads as put-made-reads
+use Rattle.console_aircraft.proofs.making.put_model.Lts as lts
+use Rattle.console_aircraft.proofs.making.put_model.Reads as reads
+use Rattle.console_plain.proofs.number_at.Reads as number-at-reads
+use Rattle.model.proofs.make.Reads as make-reads
 use borrow.Author.Needs.{needs}
-use Rattle.console_rules.specs.Aircraft.{modelSaid}
-use Rattle.console_aircraft.proofs.Texts.{said}
+use Rattle.console_plain.proofs.Texts.{lent}
+use Rattle.console_aircraft.proofs.Texts.{by-words}
 use Rattle.console_aircraft.proofs.making.put_model.Statement.{statement}
 use Rattle.console_aircraft.proofs.making.put_model.Tie as tie
 
 pub put-model-spec : {M : Type 1} → statement M
-unfolding modelSaid
 put-model-spec =
     tie.close
     (tie.spec
-    (λ c κs. search needs)
     (λ c. search needs)
     (λ c. search needs)
-    (λ c κs. search needs)
-    (λ c. search needs)
-    (λ c. search said)
-    (λ c κs. search needs)
     (λ c. search needs)
     (λ c. search needs)
-    (λ c κs. search needs)
-    (λ c. search needs)
-    (λ c. search said)
-    (λ c κs. search needs)
     (λ c. search needs)
     (λ c. search needs)
-    (λ c κs. search needs)
     (λ c. search needs)
-    (λ c. search said)
-    (λ c κs. search needs)
     (λ c. search needs)
-    (λ c. search said depth 8))
+    (λ c. search (by-words, lent) depth 12))

@@ -1,7 +1,9 @@
--- `put_state` shows an aircraft that was made.
+-- `put_state` shows the aircraft's parts.
+use Rattle.console_aircraft.proofs.showing.put_state.Lts as lts
+use Rattle.console_aircraft.proofs.showing.put_state.Reads as reads
+use Rattle.console_aircraft.proofs.showing.put_transponder.Reads as put-transponder-reads
 use borrow.Author.Needs.{needs}
 use Rattle.console_rules.specs.Aircraft.{stateSaid}
-use Rattle.console_aircraft.proofs.Texts.{said}
 use Rattle.console_aircraft.proofs.showing.put_state.Statement.{statement}
 use Rattle.console_aircraft.proofs.showing.put_state.Tie as tie
 
@@ -10,9 +12,6 @@ unfolding stateSaid
 put-state-spec =
     tie.close
     (tie.spec
-    (λ c κs. search needs)
     (λ c. search needs)
-    (λ c. search said)
-    (λ c κs. search needs)
     (λ c. search needs)
-    (λ c. search said))
+    (λ c. search))

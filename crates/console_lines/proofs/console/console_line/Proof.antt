@@ -1,6 +1,6 @@
--- `console_line` answers a line that is too long, or goes by its words.
+-- `console_line` says nothing behind quit, answers a line that is too long, or goes by its words.
 use borrow.Author.Needs.{needs}
-use Rattle.console_lines.proofs.Lines.{stays, fits, long-line, short-line}
+use Rattle.console_lines.proofs.Lines.{stays, stays-silent, fits, whole}
 use Rattle.console_lines.proofs.console.console_line.Statement.{statement}
 use Rattle.console_lines.proofs.console.console_line.Tie as tie
 
@@ -9,9 +9,11 @@ console-line-spec =
     tie.close
     (tie.spec
     (λ c κs. search needs)
+    (λ c. search (whole, stays-silent))
+    (λ c κs. search needs)
     (λ c κs. search needs)
     (λ c. search needs)
-    (λ c. search (long-line, stays, fits))
+    (λ c. search (whole, stays, fits))
     (λ c κs. search needs)
     (λ c. search needs)
-    (λ c. search short-line))
+    (λ c. search whole))

@@ -1,37 +1,25 @@
--- `put_all_call_frame` reads three numbers in turn, and lays the all-call that they say.
+-- `put_all_call_frame` reads three numbers, and lays the all-call of what they say.
+use Rattle.console_plain.proofs.building.put_all_call_frame.Lts as lts
+use Rattle.console_plain.proofs.building.put_all_call_frame.Reads as reads
+use Rattle.console_plain.proofs.building.put_built.Reads as put-built-reads
+use Rattle.console_plain.proofs.words.number_at.Reads as number-at-reads
+use Rattle.frames.proofs.all_call.Reads as all-call-reads
 use borrow.Author.Needs.{needs}
-use Rattle.text_rules.proofs.Laid.{put-as}
-use Rattle.console_rules.specs.Building.{builtText, allCallText}
-use Rattle.console_plain.proofs.Texts.{words}
+use Rattle.console_plain.proofs.Texts.{lent}
+use Rattle.console_plain.proofs.Lines.{by-words}
 use Rattle.console_plain.proofs.building.put_all_call_frame.Statement.{statement}
 use Rattle.console_plain.proofs.building.put_all_call_frame.Tie as tie
 
 pub put-all-call-frame-spec : {M : Type 1} → statement M
-unfolding allCallText
 put-all-call-frame-spec =
     tie.close
     (tie.spec
-    (λ c κs. search needs)
     (λ c. search needs)
     (λ c. search needs)
-    (λ c κs. search needs)
-    (λ c. search needs)
-    (λ c. search words)
-    (λ c κs. search needs)
     (λ c. search needs)
     (λ c. search needs)
-    (λ c κs. search needs)
     (λ c. search needs)
-    (λ c. search words)
-    (λ c κs. search needs)
+    (λ c. search lent)
     (λ c. search needs)
     (λ c. search needs)
-    (λ c κs. search needs)
-    (λ c. search needs)
-    (λ c. search words)
-    (λ c. search needs)
-    (λ c κs. search needs)
-    (λ c. search needs)
-    (λ c κs. search needs)
-    (λ c. search needs)
-    (λ c. search (words, put-as builtText)))
+    (λ c. search (by-words, lent) depth 12))

@@ -1,6 +1,10 @@
 -- `number_at` reads the word with that number.
+use Rattle.console_plain.proofs.words.number_at.Lts as lts
+use Rattle.console_plain.proofs.words.number_at.Reads as reads
+use Rattle.text.proofs.nth_word.Reads as nth-word-reads
+use Rattle.text.proofs.number_of.Reads as number-of-reads
 use borrow.Author.Needs.{needs}
-use Rattle.console_plain.proofs.Texts.{same-number}
+use Rattle.console_plain.proofs.Texts.{reads}
 use Rattle.console_plain.proofs.words.number_at.Statement.{statement}
 use Rattle.console_plain.proofs.words.number_at.Tie as tie
 
@@ -8,9 +12,12 @@ pub number-at-spec : {M : Type 1} → statement M
 number-at-spec =
     tie.close
     (tie.spec
-    (λ c κs. search needs)
     (λ c. search needs)
     (λ c. search needs)
     (λ c. search needs)
-    (λ c κs. search needs)
-    (λ c. search same-number))
+    (λ c. search needs)
+    (λ c. search needs)
+    (λ c. search needs)
+    (λ c. search needs)
+    (λ c. search reads)
+    (λ c. search reads))

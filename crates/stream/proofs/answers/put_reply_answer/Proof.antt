@@ -29,17 +29,30 @@ put-byte-requires c κs = search needs
 same-length : tie.Need-same-length
 same-length c = search needs
 
+-- each number's place from that of the next
+abbrev to-third : tie.After-put-number4 → tie.After-put-number3
+to-third c = search
+
+abbrev to-second : tie.After-put-number3 → tie.After-put-number2
+to-second c = search
+
+abbrev to-first : tie.After-put-number2 → tie.After-put-number
+to-first c = search
+
 returns : tie.Need-returns
 unfolding line replyLine
 returns c =
     let fits = c .before .before .before .before .before .before .before .before .before .before .before .before .before .before .before .before .before
     .before .before .before .before .before .before .before .before .fits .delay in
     let e = c .before .before .before .before .before .before .put-signed .ensures in
-    within-then
-    (c .before .before .before .before .before .before .before .before .before .before .before .before .before .before .before .before .before .before .before .before .before .before .put-number .ensures)
-    (within-then (c .before .before .before .before .before .before .before .before .before .before .before .before .before .before .before .before .before .before .put-number2 .ensures)
-    (within-then (c .before .before .before .before .before .before .before .before .before .before .before .before .before .before .put-number3 .ensures)
-    (within-then (c .before .before .before .before .before .before .before .before .before .before .put-number4 .ensures)
+    let fourth : tie.After-put-number4 = search in
+    let third = to-third fourth in
+    let second = to-second third in
+    let first = to-first second in
+    within-then (first .put-number .ensures)
+    (within-then (second .put-number2 .ensures)
+    (within-then (third .put-number3 .ensures)
+    (within-then (fourth .put-number4 .ensures)
     (within-then (within 11 (signed-short _ fits) (rw (toZ-ofZ w32 _ fits) at e)) (within 1 (omega arith) (c .before .before .put-byte .ensures))))))
 
 pub put-reply-answer-spec : {M : Type 1} → statement M

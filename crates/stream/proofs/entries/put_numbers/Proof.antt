@@ -26,17 +26,36 @@ put-number-requires-6 c κs = search needs
 same-length : tie.Need-same-length
 same-length c = search needs
 
+-- each number's place from that of the next
+abbrev to-fifth : tie.After-put-number6 → tie.After-put-number5
+to-fifth c = search
+
+abbrev to-fourth : tie.After-put-number5 → tie.After-put-number4
+to-fourth c = search
+
+abbrev to-third : tie.After-put-number4 → tie.After-put-number3
+to-third c = search
+
+abbrev to-second : tie.After-put-number3 → tie.After-put-number2
+to-second c = search
+
+abbrev to-first : tie.After-put-number2 → tie.After-put-number
+to-first c = search
+
 returns : tie.Need-returns
 unfolding line
 returns c =
-    within-then
-    (c .before .before .before .before .before .before .before .before .before .before .before .before .before .before .before .before .before .before .before .before .before .before .put-number .ensures)
-    (within-then
-    (c .before .before .before .before .before .before .before .before .before .before .before .before .before .before .before .before .before .before .put-number2 .ensures)
-    (within-then
-    (c .before .before .before .before .before .before .before .before .before .before .before .before .before .before .put-number3 .ensures)
-    (within-then (c .before .before .before .before .before .before .before .before .before .before .put-number4 .ensures)
-    (within-then (c .before .before .before .before .before .before .put-number5 .ensures) (c .before .before .put-number6 .ensures)))))
+    let sixth : tie.After-put-number6 = search in
+    let fifth = to-fifth sixth in
+    let fourth = to-fourth fifth in
+    let third = to-third fourth in
+    let second = to-second third in
+    let first = to-first second in
+    within-then (first .put-number .ensures)
+    (within-then (second .put-number2 .ensures)
+    (within-then (third .put-number3 .ensures)
+    (within-then (fourth .put-number4 .ensures)
+    (within-then (fifth .put-number5 .ensures) (sixth .put-number6 .ensures)))))
 
 pub put-numbers-spec : {M : Type 1} → statement M
 put-numbers-spec =

@@ -1,0 +1,17 @@
+-- `word_reason` goes by what belongs at the word.
+use Rattle.console_lines.proofs.reasons.is_bytes.Reads as is-bytes-reads
+use Rattle.console_lines.proofs.reasons.word_reason.Lts as lts
+use Rattle.console_lines.proofs.reasons.word_reason.Reads as reads
+use Rattle.console_lines.proofs.Judging.{words}
+use borrow.Author.Needs.{needs}
+use Rattle.console_lines.proofs.reasons.word_reason.Statement.{statement}
+use Rattle.console_lines.proofs.reasons.word_reason.Tie as tie
+
+pub word-reason-spec : {M : Type 1} → statement M
+word-reason-spec =
+    tie.close
+    (tie.spec
+    (λ c. search words)
+    (λ c. search needs)
+    (λ c. search words)
+    (λ c. search words))

@@ -1,0 +1,27 @@
+// The loop of the program console: each line of an input is answered before the next is waited for.
+use crate::console::begin;
+use crate::console::console_line;
+
+// Prints what the console tells of each line that comes, until it is quit, the input ends or a write fails. The turns are counted down from a
+// number that no run uses up, since nothing says that an input ends.
+pub fn run(fd: i32, piece: &mut [u8]) {
+    let mut line = [0u8; 1001];
+    let mut out = [0u8; 512];
+    let mut b = begin();
+    let mut f = inputs::start(fd);
+    let mut turns = u64::MAX;
+    while 0 < turns {
+        f = inputs::next_line(f, piece, &mut line);
+        if !f.is_line {
+            return;
+        }
+        let n = f.size;
+        let r = console_line(b, &line[..n], &mut out);
+        let size = r.size;
+        b = r.bench;
+        if !inputs::print(&out[..size]) || b.over {
+            return;
+        }
+        turns -= 1;
+    }
+}

@@ -1,0 +1,2 @@
+-- The laws of the next line.
+pub mod First

@@ -1,7 +1,0 @@
--- `main` has the stream of standard input printed.
-use borrow.Author.Needs.{needs}
-use Rattle.jerungkal.proofs.main.Statement.{statement}
-use Rattle.jerungkal.proofs.main.Tie as tie
-
-pub main-spec : {M : Type 1} → statement M
-main-spec = tie.close (tie.spec (λ c κs. search needs) (λ c. search needs))
