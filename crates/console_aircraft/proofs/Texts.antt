@@ -21,7 +21,8 @@ use Rattle.model_rules.specs.declared.state.Took.{Took}
 use Rattle.console_rules.specs.declared.state.Aircraft.{Aircraft}
 use Rattle.console_rules.specs.declared.state.Shown.{Shown}
 use Rattle.console_rules.specs.Texts.{numberAt, bytesAt, doneText, answerText, Brief}
-use Rattle.console_rules.specs.Aircraft.{Showed, numberSaid, flying, madeSaid, modelSaid, queuedSaid, queueSaid, tookSaid, sendSaid}
+use Rattle.console_rules.specs.declared.names.FlightLine.{FlightLine}
+use Rattle.console_rules.specs.Aircraft.{Showed, flightSaid, numberSaid, flying, madeSaid, modelSaid, queuedSaid, queueSaid, tookSaid, sendSaid}
 use Rattle.console_rules.specs.Aircraft.{sentText, holderText, lockText, locksText, shownText}
 use Rattle.model_rules.specs.Calls as calls
 use Rattle.console_rules.proofs.ShortAircraft.{sent-fits}
@@ -44,6 +45,11 @@ module _ (a : Aircraft) (ws : List (List ℕ)) {l m : List ℕ} {s : Shown} wher
   send-line p e b c d = rw (e, b, c, d) at p
 
 pub ruleset by-words = (model-line, queue-line, send-line)
+
+-- what a line says, by the line that it is
+pub flight-line : (a : Aircraft) (ws : List (List ℕ)) {c d : FlightLine} {l m : List ℕ} {s : Shown} → c ≡ d → Showed (flightSaid d a ws) l m s
+    → Showed (flightSaid c a ws) l m s
+flight-line a ws e p = rw e p
 
 -- ---- an aircraft that was made, or the one before
 module _ (a : Aircraft) {l m : List ℕ} {s : Shown} where

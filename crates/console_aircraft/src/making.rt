@@ -24,7 +24,7 @@ fn put_made(a: Aircraft, m: Made, out: &mut [u8]) -> Shown
 }
 
 // Makes the aircraft.
-pub fn put_model(line: &[u8], a: Aircraft, out: &mut [u8]) -> Shown
+pub(crate) fn put_model(line: &[u8], a: Aircraft, out: &mut [u8]) -> Shown
     ensures { λ r. ⌜ Showed (modelSaid a (wordsOf (now (line .entry)))) (now (out .entry)) (now (out .exit)) r ⌝ }
 {
     let address = number_at(line, 1);

@@ -19,7 +19,7 @@ fn put_queued(q: Queued, out: &mut [u8]) -> Shown
 }
 
 // Queues a message.
-pub fn put_queue(line: &[u8], a: Aircraft, out: &mut [u8]) -> Shown
+pub(crate) fn put_queue(line: &[u8], a: Aircraft, out: &mut [u8]) -> Shown
     ensures { λ r. ⌜ Showed (queueSaid a (wordsOf (now (line .entry)))) (now (out .entry)) (now (out .exit)) r ⌝ }
 {
     let mut message = [0u8; 32];

@@ -45,7 +45,7 @@ fn put_took(k: Took, out: &mut [u8]) -> Shown
 }
 
 // Sends a frame to the aircraft.
-pub fn put_send(line: &[u8], a: Aircraft, out: &mut [u8]) -> Shown
+pub(crate) fn put_send(line: &[u8], a: Aircraft, out: &mut [u8]) -> Shown
     ensures { λ r. ⌜ Showed (sendSaid a (wordsOf (now (line .entry)))) (now (out .entry)) (now (out .exit)) r ⌝ }
 {
     let time = console_plain::number_at(line, 1);

@@ -88,7 +88,7 @@ fn put_transponder(t: Transponder, out: &mut [u8]) -> usize
 }
 
 // Shows the aircraft.
-pub fn put_state(a: Aircraft, out: &mut [u8]) -> Shown
+pub(crate) fn put_state(a: Aircraft, out: &mut [u8]) -> Shown
     ensures { λ r. ⌜ Showed (stateSaid a) (now (out .entry)) (now (out .exit)) r ⌝ }
 {
     let t = a.transponder;

@@ -13,9 +13,10 @@ use Rattle.text_rules.specs.Put.{Put}
 use Rattle.text_rules.specs.declared.answer.Span.{Span}
 use Rattle.text_rules.proofs.Laid.{put-none}
 use Rattle.console_plain.proofs.Texts.{word-of}
-use Rattle.console_rules.proofs.Short.{remainder-fits, overlay-fits, correct-fits, build-fits, all-call-frame-fits, up-fits, down-fits}
-use Rattle.console_rules.proofs.Short.{code-fits, feet-fits, explain-fits}
-use Rattle.console_rules.specs.Texts.{word, Brief}
+use Rattle.console_rules.specs.Texts.{word, Brief, room}
+use Rattle.station_rules.specs.declared.state.Station.{Station}
+use Rattle.console_rules.specs.declared.state.Served.{Served}
+use Rattle.console_rules.specs.Station.{Spoken, Spoke}
 use Rattle.console_rules.specs.declared.state.Aircraft.{Aircraft}
 use Rattle.console_rules.specs.declared.state.Shown.{Shown}
 use Rattle.console_rules.specs.declared.state.Bench.{Bench}
@@ -23,12 +24,11 @@ use Rattle.console_rules.specs.declared.state.Answered.{Answered}
 use Rattle.console_rules.specs.declared.names.Command.{Command}
 use Rattle.console_rules.specs.declared.names.Row.{Row}
 use Rattle.console_rules.specs.declared.names.Reason.{Reason}
-use Rattle.console_rules.specs.Help.{helpText}
 use Rattle.console_rules.specs.Names.{table, noRow, rowCount, rowAt, rowIn, rowOf}
 use Rattle.console_rules.proofs.Table.{row-taken, row-passed, no-rows}
 use Rattle.console_rules.specs.Reasons.{tooLong, isTooLong, reasonOf, isRead, reasonText}
 use Rattle.console_rules.specs.Aircraft.{Said, Showed}
-use Rattle.console_rules.specs.Console.{Answers, telling, flown, ended, comment, callTold, judgedTold, rowTold, commandTold, wordsTold, lineTold}
+use Rattle.console_rules.specs.Console.{Answers, telling, flown, served, ended, comment, callTold, judgedTold, rowTold, commandTold, wordsTold, lineTold}
 
 -- the first byte of a word
 pub comment-none : (w : List ℕ) → length w ≡ 0 → false ≡ comment w
@@ -44,7 +44,7 @@ comment-first (b ∷ w) h = refl
 -- ---- what was answered
 
 -- a text that fits was laid, and the bench stays
-pub stays : {t : List ℕ} {b : Bench} {size : ℕ} {l m : List ℕ} {r : Answered} → r ≡ record { size = size; bench = b } → Put t 0 l m size → length t ≤ 512
+pub stays : {t : List ℕ} {b : Bench} {size : ℕ} {l m : List ℕ} {r : Answered} → r ≡ record { size = size; bench = b } → Put t 0 l m size → length t ≤ room
     → Answers (telling t b) l m r
 stays e p h = rw e (record { text-put = p; bench = refl; short = h })
 
@@ -54,36 +54,39 @@ stays-silent {b} {l} e = stays e (put-none 0 l (omega arith)) (omega arith)
 
 -- a line of the aircraft was shown
 pub flies : (b : Bench) {a : Said} {s : Shown} {l m : List ℕ} {r : Answered}
-    → r ≡ record { size = s .size; bench = record { aircraft = s .aircraft; over = b .over } }
-    → Showed a l m s → Answers (flown b a) l m r
+    → r ≡ record { size = s .size; bench = record { aircraft = s .aircraft; station = b .station; over = b .over } } → Showed a l m s
+    → Answers (flown b a) l m r
 flies b e p =
-    rw e (record { text-put = p .text-put; bench = ap (λ (a : Aircraft). record { aircraft = a; over = b .over }) (p .aircraft); short = p .short })
+    rw e
+    (record {
+      text-put = p .text-put;
+      bench = ap (λ (a : Aircraft). record { aircraft = a; station = b .station; over = b .over }) (p .aircraft);
+      short = omega (arith, p .short);
+    })
+
+-- a line of the station was served
+pub serves : (b : Bench) {a : Spoken} {s : Served} {l m : List ℕ} {r : Answered}
+    → r ≡ record { size = s .size; bench = record { aircraft = b .aircraft; station = s .station; over = b .over } } → Spoke a l m s
+    → Answers (served b a) l m r
+serves b e p =
+    rw e
+    (record {
+      text-put = p .text-put;
+      bench = ap (λ (a : Station). record { aircraft = b .aircraft; station = a; over = b .over }) (p .station);
+      short = p .short;
+    })
 
 -- the console was quit, and nothing was laid
 pub ends : (b : Bench) {l : List ℕ} {r : Answered} → r ≡ record { size = 0; bench = ended b } → Answers (telling [] (ended b)) l l r
 ends b e = stays-silent e
 
--- `search fits` finds that a text fits
-pub too-long-fits : length tooLong ≤ 512
+-- a brief text was laid
+pub briefly : {t : List ℕ} {b : Bench} {size : ℕ} {l m : List ℕ} {r : Answered} → r ≡ record { size = size; bench = b } → Brief t l m size
+    → Answers (telling t b) l m r
+briefly e p = stays e (p .text-put) (omega (arith, p .short))
+
+pub too-long-fits : length tooLong ≤ room
 too-long-fits = omega arith
-
-pub help-fits : length helpText ≤ 512
-help-fits = omega arith
-
-pub ruleset fits = (
-  too-long-fits,
-  remainder-fits,
-  overlay-fits,
-  correct-fits,
-  build-fits,
-  all-call-frame-fits,
-  up-fits,
-  down-fits,
-  code-fits,
-  feet-fits,
-  explain-fits,
-  help-fits,
-)
 
 -- ---- the call of a line that is read
 
@@ -103,7 +106,7 @@ module _ (b : Bench) (ws : List (List ℕ)) {w : List ℕ} {r : Row} {why : Reas
       was-read h p = rw (by-reason (not-false read h)) p
 
       pub not-read : not read ≡ true → {size : ℕ} → s ≡ record { size = size; bench = b } → Brief (reasonText why) l m size → Answers (commandTold b ws) l m s
-      not-read h e p = rw (by-reason (not-true read h)) (stays e (p .text-put) (p .short))
+      not-read h e p = rw (by-reason (not-true read h)) (briefly e p)
 
 pub ruleset calls = (was-read, not-read)
 

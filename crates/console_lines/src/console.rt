@@ -4,7 +4,6 @@ ghost use mathlib.Core.Bool.{true};
 ghost use Rattle.text_rules.specs.Line.{wordsOf};
 ghost use Rattle.console_rules.specs.Texts.{word};
 ghost use Rattle.console_rules.specs.Console.{Answers, begun, callTold, commandTold, comment, wordsTold, lineTold};
-use crate::help::put_help;
 use crate::names::find_row;
 use crate::reasons::is_read;
 use crate::reasons::judge;
@@ -13,15 +12,18 @@ use crate::reasons::put_too_long;
 use console_rules::Answered;
 use console_rules::Bench;
 use console_rules::Command;
+use console_rules::Served;
 use console_rules::Shown;
 
-// The bench before any line: no aircraft, and nobody has quit.
+// The bench before any line: no aircraft, the station before any setup, and nobody has quit.
 pub fn begin() -> Bench
     ensures { λ r. ⌜ r ≡ begun ⌝ }
 {
     let aircraft = console_aircraft::none();
+    let station = station::before_setup();
     Bench {
         aircraft,
+        station,
         over: false,
     }
 }
@@ -35,27 +37,47 @@ fn stay(size: usize, b: Bench) -> Answered
 
 // A line of the aircraft was answered, and the bench has what it left.
 fn fly(s: Shown, b: Bench) -> Answered
-    ensures { λ r. ⌜ r ≡ record { size = s .size; bench = record { aircraft = s .aircraft; over = b .over } } ⌝ }
+    ensures { λ r. ⌜ r ≡ record { size = s .size; bench = record { aircraft = s .aircraft; station = b .station; over = b .over } } ⌝ }
 {
     let aircraft = s.aircraft;
+    let station = b.station;
     Answered {
         size: s.size,
         bench: Bench {
             aircraft,
+            station,
+            over: b.over,
+        },
+    }
+}
+
+// A line of the station was answered, and the bench has what it left.
+fn serve(s: Served, b: Bench) -> Answered
+    ensures { λ r. ⌜ r ≡ record { size = s .size; bench = record { aircraft = b .aircraft; station = s .station; over = b .over } } ⌝ }
+{
+    let aircraft = b.aircraft;
+    let station = s.station;
+    Answered {
+        size: s.size,
+        bench: Bench {
+            aircraft,
+            station,
             over: b.over,
         },
     }
 }
 
 // The console is quit.
-fn end(b: Bench) -> Answered
-    ensures { λ r. ⌜ r ≡ record { size = 0; bench = record { aircraft = b .aircraft; over = true } } ⌝ }
+pub(crate) fn end(b: Bench) -> Answered
+    ensures { λ r. ⌜ r ≡ record { size = 0; bench = record { aircraft = b .aircraft; station = b .station; over = true } } ⌝ }
 {
     let aircraft = b.aircraft;
+    let station = b.station;
     Answered {
         size: 0,
         bench: Bench {
             aircraft,
+            station,
             over: true,
         },
     }
@@ -66,22 +88,10 @@ fn put_call(c: Command, line: &[u8], b: Bench, out: &mut [u8]) -> Answered
     ensures { λ r. ⌜ Answers (callTold c b (wordsOf (now (line .entry)))) (now (out .entry)) (now (out .exit)) r ⌝ }
 {
     match c {
-        Command::Remainder => stay(console_plain::put_remainder(line, out), b),
-        Command::Overlay => stay(console_plain::put_overlay(line, out), b),
-        Command::Correct => stay(console_plain::put_correct(line, out), b),
-        Command::Build => stay(console_plain::put_build(line, out), b),
-        Command::AllCall => stay(console_plain::put_all_call_frame(line, out), b),
-        Command::Up => stay(console_plain::put_up(line, out), b),
-        Command::Down => stay(console_plain::put_down(line, out), b),
-        Command::Code => stay(console_plain::put_code(line, out), b),
-        Command::Feet => stay(console_plain::put_feet(line, out), b),
-        Command::Model => fly(console_aircraft::put_model(line, b.aircraft, out), b),
-        Command::Queue => fly(console_aircraft::put_queue(line, b.aircraft, out), b),
-        Command::Send => fly(console_aircraft::put_send(line, b.aircraft, out), b),
-        Command::State => fly(console_aircraft::put_state(b.aircraft, out), b),
-        Command::Explain => stay(console_plain::put_explain(line, out), b),
+        Command::Plain(l) => stay(console_plain::put_plain(l, line, out), b),
+        Command::Flight(l) => fly(console_aircraft::put_flight(l, line, b.aircraft, out), b),
+        Command::Station(l) => serve(console_station::put_station(l, line, b.station, out), b),
         Command::Quit => end(b),
-        Command::Help => stay(put_help(out), b),
         Command::Unknown => stay(0, b),
     }
 }

@@ -1,7 +1,6 @@
 // The bench console: which line a first word names, why a line is not read, and the lines of an input answered one after the other.
 // Their definitions stand in crate console_rules.
 mod console;
-mod help;
 mod names;
 mod program;
 mod reasons;

@@ -4,14 +4,18 @@ ghost use mathlib.Core.Path.{_≡_};
 ghost use Rattle.text_rules.specs.Line.{sameAs};
 ghost use Rattle.console_rules.specs.Names.{noRow, rowOf, rowAt, rowCount};
 use console_rules::Command;
+use console_rules::FlightLine;
+use console_rules::PlainLine;
 use console_rules::Row;
+use console_rules::StationLine;
 
 // The word is the k-th name.
 fn is_name(word: &[u8], k: usize) -> bool
     ensures { λ r. ⌜ r ≡ sameAs (now (word .entry)) (rowAt k .name) ⌝ }
 {
     let names: &[u8] = b"remainder overlay correct build allcall up down code feet \
-        model queue send state explain quit help";
+        model queue send state setup target remove move request plan reply report \
+        targets entries explain quit help";
     let w = text::nth_word(names, k);
     let from = w.from;
     let to = w.to;
@@ -19,35 +23,126 @@ fn is_name(word: &[u8], k: usize) -> bool
 }
 
 // How many lines there are.
-const ROWS: usize = 16;
+const ROWS: usize = 26;
 
 // The calls in the order of their names.
 const COMMANDS: [Command; ROWS] = [
-    Command::Remainder,
-    Command::Overlay,
-    Command::Correct,
-    Command::Build,
-    Command::AllCall,
-    Command::Up,
-    Command::Down,
-    Command::Code,
-    Command::Feet,
-    Command::Model,
-    Command::Queue,
-    Command::Send,
-    Command::State,
-    Command::Explain,
+    Command::Plain(PlainLine::Remainder),
+    Command::Plain(PlainLine::Overlay),
+    Command::Plain(PlainLine::Correct),
+    Command::Plain(PlainLine::Build),
+    Command::Plain(PlainLine::AllCall),
+    Command::Plain(PlainLine::Up),
+    Command::Plain(PlainLine::Down),
+    Command::Plain(PlainLine::Code),
+    Command::Plain(PlainLine::Feet),
+    Command::Flight(FlightLine::Model),
+    Command::Flight(FlightLine::Queue),
+    Command::Flight(FlightLine::Send),
+    Command::Flight(FlightLine::State),
+    Command::Station(StationLine::Setup),
+    Command::Station(StationLine::Target),
+    Command::Station(StationLine::Remove),
+    Command::Station(StationLine::Move),
+    Command::Station(StationLine::Request),
+    Command::Station(StationLine::Plan),
+    Command::Station(StationLine::Reply),
+    Command::Station(StationLine::Report),
+    Command::Station(StationLine::Targets),
+    Command::Station(StationLine::Entries),
+    Command::Plain(PlainLine::Explain),
     Command::Quit,
-    Command::Help,
+    Command::Plain(PlainLine::Help),
 ];
 
 // How many words stand behind each name.
-const WORDS: [u8; ROWS] = [1, 1, 4, 7, 3, 1, 1, 4, 1, 5, 1, 3, 0, 1, 0, 0];
+const WORDS: [u8; ROWS] = [
+    1,
+    1,
+    4,
+    7,
+    3,
+    1,
+    1,
+    4,
+    1,
+    5,
+    1,
+    3,
+    0,
+    19,
+    3,
+    1,
+    3,
+    8,
+    1,
+    4,
+    1,
+    0,
+    0,
+    1,
+    0,
+    0,
+];
 
 // Which of them are bytes, one or two, counted from 1; 0 for none.
-const BYTES: [u8; ROWS] = [1, 0, 1, 6, 0, 1, 1, 1, 0, 0, 1, 3, 0, 0, 0, 0];
+const BYTES: [u8; ROWS] = [
+    1,
+    0,
+    1,
+    6,
+    0,
+    1,
+    1,
+    1,
+    0,
+    0,
+    1,
+    3,
+    0,
+    0,
+    0,
+    0,
+    0,
+    8,
+    0,
+    3,
+    0,
+    0,
+    0,
+    0,
+    0,
+    0,
+];
 
-const MORE: [u8; ROWS] = [0, 0, 2, 0, 0, 0, 0, 0, 0, 0, 0, 0, 0, 0, 0, 0];
+const MORE: [u8; ROWS] = [
+    0,
+    0,
+    2,
+    0,
+    0,
+    0,
+    0,
+    0,
+    0,
+    0,
+    0,
+    0,
+    0,
+    0,
+    0,
+    0,
+    0,
+    0,
+    0,
+    4,
+    0,
+    0,
+    0,
+    0,
+    0,
+    0,
+];
 
 // Which lines need an aircraft.
 const AIRCRAFT: [bool; ROWS] = [
@@ -64,6 +159,16 @@ const AIRCRAFT: [bool; ROWS] = [
     true,
     true,
     true,
+    false,
+    false,
+    false,
+    false,
+    false,
+    false,
+    false,
+    false,
+    false,
+    false,
     false,
     false,
     false,

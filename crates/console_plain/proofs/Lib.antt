@@ -1,4 +1,4 @@
 -- The laws of the crate: the texts from their parts.
 pub mod Texts
-pub mod Lines
+pub mod ByWords
 pub mod Frames

@@ -48,7 +48,7 @@ fn put_selective(
 }
 
 // The fields of a selective interrogation, MA and the address.
-pub fn put_build(line: &[u8], out: &mut [u8]) -> usize
+pub(crate) fn put_build(line: &[u8], out: &mut [u8]) -> usize
     ensures { λ r. ⌜ Put (buildText (wordsOf (now (line .entry)))) 0 (now (out .entry)) (now (out .exit)) r ⌝ }
 {
     let uf = number_at(line, 1);
@@ -63,7 +63,7 @@ pub fn put_build(line: &[u8], out: &mut [u8]) -> usize
 }
 
 // The fields of an all-call.
-pub fn put_all_call_frame(line: &[u8], out: &mut [u8]) -> usize
+pub(crate) fn put_all_call_frame(line: &[u8], out: &mut [u8]) -> usize
     ensures { λ r. ⌜ Put (allCallText (wordsOf (now (line .entry)))) 0 (now (out .entry)) (now (out .exit)) r ⌝ }
 {
     let pr = number_at(line, 1);

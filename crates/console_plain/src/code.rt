@@ -23,7 +23,7 @@ fn put_whose(out: &mut [u8], a: Code) -> usize
 }
 
 // A reply, and a station's CL, IC and permission.
-pub fn put_code(line: &[u8], out: &mut [u8]) -> usize
+pub(crate) fn put_code(line: &[u8], out: &mut [u8]) -> usize
     ensures { λ r. ⌜ Put (codeText (wordsOf (now (line .entry)))) 0 (now (out .entry)) (now (out .exit)) r ⌝ }
 {
     let mut msg = [0u8; 32];

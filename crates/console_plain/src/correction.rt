@@ -47,7 +47,7 @@ fn put_fixed(
 }
 
 // A message, its marks, an overlay and a limit.
-pub fn put_correct(line: &[u8], out: &mut [u8]) -> usize
+pub(crate) fn put_correct(line: &[u8], out: &mut [u8]) -> usize
     ensures { λ r. ⌜ Put (correctText (wordsOf (now (line .entry)))) 0 (now (out .entry)) (now (out .exit)) r ⌝ }
 {
     let mut msg = [0u8; 32];

@@ -43,7 +43,7 @@ fn put_meaning(out: &mut [u8], n: u32) -> usize
 }
 
 // What the number of an answer means.
-pub fn put_explain(line: &[u8], out: &mut [u8]) -> usize
+pub(crate) fn put_explain(line: &[u8], out: &mut [u8]) -> usize
     ensures { λ r. ⌜ Put (explainText (wordsOf (now (line .entry)))) 0 (now (out .entry)) (now (out .exit)) r ⌝ }
 {
     put_meaning(out, number_at(line, 1))

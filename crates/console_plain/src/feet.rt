@@ -5,7 +5,7 @@ ghost use Rattle.console_rules.specs.Feet.{feetText};
 use crate::words::number_at;
 
 // The altitude that a code says.
-pub fn put_feet(line: &[u8], out: &mut [u8]) -> usize
+pub(crate) fn put_feet(line: &[u8], out: &mut [u8]) -> usize
     ensures { λ r. ⌜ Put (feetText (wordsOf (now (line .entry)))) 0 (now (out .entry)) (now (out .exit)) r ⌝ }
 {
     feet_lines::put_answer(out, 0, number_at(line, 1))

@@ -46,7 +46,7 @@ fn put_reply(out: &mut [u8], msg: &[u8]) -> usize
 }
 
 // A reply read alone.
-pub fn put_down(line: &[u8], out: &mut [u8]) -> usize
+pub(crate) fn put_down(line: &[u8], out: &mut [u8]) -> usize
     ensures { λ r. ⌜ Put (downText (wordsOf (now (line .entry)))) 0 (now (out .entry)) (now (out .exit)) r ⌝ }
 {
     let mut msg = [0u8; 32];
@@ -92,7 +92,7 @@ fn put_interrogation(out: &mut [u8], msg: &[u8]) -> usize
 }
 
 // An interrogation read alone.
-pub fn put_up(line: &[u8], out: &mut [u8]) -> usize
+pub(crate) fn put_up(line: &[u8], out: &mut [u8]) -> usize
     ensures { λ r. ⌜ Put (upText (wordsOf (now (line .entry)))) 0 (now (out .entry)) (now (out .exit)) r ⌝ }
 {
     let mut msg = [0u8; 32];

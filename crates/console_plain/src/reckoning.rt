@@ -7,7 +7,7 @@ use crate::words::bytes_at;
 use crate::words::number_at;
 
 // The remainder of a message.
-pub fn put_remainder(line: &[u8], out: &mut [u8]) -> usize
+pub(crate) fn put_remainder(line: &[u8], out: &mut [u8]) -> usize
     ensures { λ r. ⌜ Put (remainderText (wordsOf (now (line .entry)))) 0 (now (out .entry)) (now (out .exit)) r ⌝ }
 {
     let mut msg = [0u8; 32];
@@ -16,7 +16,7 @@ pub fn put_remainder(line: &[u8], out: &mut [u8]) -> usize
 }
 
 // The uplink overlay of an address.
-pub fn put_overlay(line: &[u8], out: &mut [u8]) -> usize
+pub(crate) fn put_overlay(line: &[u8], out: &mut [u8]) -> usize
     ensures { λ r. ⌜ Put (overlayText (wordsOf (now (line .entry)))) 0 (now (out .entry)) (now (out .exit)) r ⌝ }
 {
     let address = number_at(line, 1);

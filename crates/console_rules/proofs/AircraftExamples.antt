@@ -33,24 +33,24 @@ use Rattle.console_rules.specs.Console.{linesText, consoleText}
 use Rattle.console_rules.proofs.Examples.{Reading}
 
 -- a line and what it prints, both as quoted texts without their newlines
-record Told : Type 0 where
-  line : String
-  text : String
+pub record Told : Type 0 where
+  pub line : String
+  pub text : String
 
-abbrev says : String → String → Told
+abbrev pub says : String → String → Told
 says l t = record { line = l; text = t }
 
 -- the lines of a run, and the lines that they print
-abbrev lines : List Told → List ℕ
+abbrev pub lines : List Told → List ℕ
 lines [] = []
 lines (t ∷ ts) = plain (t .line) ++ (10 ∷ lines ts)
 
-abbrev texts : List Told → List ℕ
+abbrev pub texts : List Told → List ℕ
 texts [] = []
 texts (t ∷ ts) = plain (t .text) ++ (10 ∷ texts ts)
 
 -- the run prints them
-abbrev Printed : List Told → Type 0
+abbrev pub Printed : List Told → Type 0
 Printed ts = consoleText (lines ts) ≡ texts ts
 
 -- before any model there is no aircraft, and what stands in its place is that of a making that is refused

@@ -28,7 +28,9 @@ use Rattle.console_rules.specs.Building.{builtText, selectiveText, build
 use Rattle.console_rules.specs.Frames.{numberText, fieldsText, endText, numbersText, valuesText, readText, replyText, interrogationText, upText}
 use Rattle.console_rules.specs.Frames.{downText, codeWord, whoseText, codeText}
 use Rattle.console_rules.specs.Feet.{feetText}
-use Rattle.console_rules.specs.Aircraft.{unmade}
+use Rattle.console_rules.specs.Aircraft.{unmade, flightSaid}
+use Rattle.console_rules.specs.PlainLines.{plainText}
+use Rattle.console_rules.specs.Station.{stationSpoken}
 use Rattle.console_rules.specs.Explain.{meanings, meaningText, explainText}
 use Rattle.console_rules.specs.Names.{table, rowIn, rowOf}
 use Rattle.console_rules.specs.Reasons.{isBytes, isNumber, areBytes, says, faultBehind, fault, wordReason, reasonOf, isRead, reasonText}
@@ -52,7 +54,7 @@ words-read = (refl, refl, refl, refl, refl, refl)
 
 -- how a line is read, for every claim below: its words, its row, the reasons not to read it, its numbers and bytes
 unfoldable pub Reading : Type 0
-unfolding lineTold wordsTold commandTold rowTold judgedTold callTold comment rowOf rowIn table word wordsOf parts full grown blank sameAs theNumber theBytes
+unfolding lineTold wordsTold commandTold rowTold judgedTold callTold plainText flightSaid stationSpoken comment rowOf rowIn table word wordsOf parts full grown blank sameAs theNumber theBytes
     numberOf hexNumber hexAfter numberIn allDigits valueAfter bytesIn isHex allHex hexValue pairs isDigit between isBytes isNumber areBytes says faultBehind
     fault wordReason reasonOf isRead unmade
 Reading = Unit {0}

@@ -6,3 +6,4 @@ pub mod Table
 pub mod Run
 mod AircraftExamples
 mod Examples
+mod StationExamples

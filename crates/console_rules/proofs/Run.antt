@@ -15,12 +15,13 @@ use Rattle.text_rules.proofs.Laid.{read-off}
 use Rattle.text_rules.proofs.Pieces as pieces
 use Rattle.console_rules.specs.declared.state.Bench.{Bench}
 use Rattle.console_rules.specs.declared.state.Answered.{Answered}
+use Rattle.console_rules.specs.Texts.{room}
 use Rattle.console_rules.specs.Reasons.{tooLong, isTooLong}
 use Rattle.console_rules.specs.FeetLines as feet
 use Rattle.console_rules.specs.Console.{Told, Answers, telling, wordsTold, lineTold, lineText, lineLeaves, linesText, begun, consoleText}
 
--- with 512 bytes lent, what the call leaves at the buffer's front is the whole text of the line
-pub line-stands : (b : Bench) (line : List ℕ) {before after : List ℕ} {r : Answered} → Answers (lineTold b line) before after r → 512 ≤ length before
+-- with so much room lent, what the call leaves at the buffer's front is the whole text of the line
+pub line-stands : (b : Bench) (line : List ℕ) {before after : List ℕ} {r : Answered} → Answers (lineTold b line) before after r → room ≤ length before
     → take (r .size) after ≡ lineText b line
 line-stands b line p h = read-off (p .text-put) (omega (arith, p .short))
 

@@ -42,9 +42,9 @@ use Rattle.console_rules.specs.Explain.{meanings, meaningText, explainTe
 use Rattle.console_rules.specs.declared.names.Reason.the-variants.{Wanted, NoNumber, NoBytes}
 use Rattle.console_rules.specs.Reasons.{reasonText}
 
--- the size of the buffer that the program lends
-abbrev pub room : ℕ
-room = 512
+-- how long such a text is at most
+abbrev pub brief : ℕ
+brief = 512
 
 -- ---- a text that is one of two, and what a word says
 
@@ -63,12 +63,12 @@ bytes-short k ws = bytes-by (word k ws) (bytesIn (word k ws)) refl
 
 -- ---- the text of an answer
 
-pub answer-fits : (n : ℕ) (v : List ℕ) → n ≤ 17 → length v ≤ 80 → length (answerText n v) ≤ room
+pub answer-fits : (n : ℕ) (v : List ℕ) → n ≤ 17 → length v ≤ 80 → length (answerText n v) ≤ brief
 unfolding answerText doneText refusalText
 answer-fits n v h k =
     either-fits (eqb n 0) _ _ (simp length-append (omega arith)) (simp length-append (omega (arith, decimal-length 1 n (omega arith))))
 
-reckoned-fits : (a : Answer) → a .number ≤ 17 → length (reckonedText a) ≤ room
+reckoned-fits : (a : Answer) → a .number ≤ 17 → length (reckonedText a) ≤ brief
 unfolding reckonedText
 reckoned-fits a h = answer-fits _ _ h (simp hex-length (omega arith))
 
@@ -80,13 +80,13 @@ overlay-number : (address : ℕ) → uplinkOverlay address .number ≤ 17
 unfolding All uplinkOverlay
 overlay-number address = whichever (λ (a : Answer). a .number ≤ 17) (uplinkOverlayChecks address) refusedBy _ (omega arith, tt) (λ p. omega arith)
 
-corrected-fits : (o : Correction) (size : ℕ) → size ≤ 32 → Small size o → length (correctedText o) ≤ room
+corrected-fits : (o : Correction) (size : ℕ) → size ≤ 32 → Small size o → length (correctedText o) ≤ brief
 unfolding correctedText
 corrected-fits o size k s =
     answer-fits _ _ (omega (arith, s .number))
     (simp (length-append, hex-of-length) (omega (arith, s .output, decimal-length 1 (o .flips) (omega (arith, s .flips)))))
 
-fixed-fits : (msg marks : List ℕ) (overlay limit : ℕ) → length msg ≤ 32 → length (fixedText msg marks overlay limit) ≤ room
+fixed-fits : (msg marks : List ℕ) (overlay limit : ℕ) → length msg ≤ 32 → length (fixedText msg marks overlay limit) ≤ brief
 unfolding fixedText
 fixed-fits msg marks overlay limit h =
     corrected-fits (correction msg marks overlay limit (replicate (length msg) 0)) (length (replicate {A = ℕ} (length msg) 0))
@@ -111,50 +111,50 @@ end-fits f part r h =
     either-fits (longFormat f) _ _ (simp length-append (omega (arith, hex-of-length part, hex-length 6 r))) (omega (arith, hex-length 6 r))
 
 seven-fits : (f a b c d m r : ℕ) (part : List ℕ) → f < 100000000 → a < 100000000 → b < 100000000 → c < 100000000 → d < 100000000 → length part ≤ 7
-    → length (readText (done (f ∷ a ∷ b ∷ c ∷ d ∷ m ∷ r ∷ [])) part) ≤ room
+    → length (readText (done (f ∷ a ∷ b ∷ c ∷ d ∷ m ∷ r ∷ [])) part) ≤ brief
 unfolding readText valuesText numbersText
 seven-fits f a b c d m r part hf ha hb hc hd hp =
     answer-fits 0 _ (omega arith)
     (simp length-append (omega (arith, number-fits f hf, number-fits a ha, number-fits b hb, number-fits c hc, number-fits d hd, end-fits f part r hp)))
 
-four-fits : (f a b r : ℕ) (part : List ℕ) → f < 100000000 → a < 100000000 → b < 100000000 → length (readText (done (f ∷ a ∷ b ∷ r ∷ [])) part) ≤ room
+four-fits : (f a b r : ℕ) (part : List ℕ) → f < 100000000 → a < 100000000 → b < 100000000 → length (readText (done (f ∷ a ∷ b ∷ r ∷ [])) part) ≤ brief
 unfolding readText valuesText fieldsText
 four-fits f a b r part hf ha hb =
     answer-fits 0 _ (omega arith)
     (simp length-append (omega (arith, number-fits f hf, number-fits a ha, number-fits b hb, hex-length 6 r)))
 
 five-fits : (f a b c r : ℕ) (part : List ℕ) → f < 100000000 → a < 100000000 → b < 100000000 → c < 100000000
-    → length (readText (done (f ∷ a ∷ b ∷ c ∷ r ∷ [])) part) ≤ room
+    → length (readText (done (f ∷ a ∷ b ∷ c ∷ r ∷ [])) part) ≤ brief
 unfolding readText valuesText fieldsText
 five-fits f a b c r part hf ha hb hc =
     answer-fits 0 _ (omega arith)
     (simp length-append (omega (arith, number-fits f hf, number-fits a ha, number-fits b hb, number-fits c hc, hex-length 6 r)))
 
-refused-fits : (n : ℕ) (part : List ℕ) → n ≤ 17 → length (readText (refusal n) part) ≤ room
+refused-fits : (n : ℕ) (part : List ℕ) → n ≤ 17 → length (readText (refusal n) part) ≤ brief
 unfolding readText valuesText fieldsText
 refused-fits n part h = answer-fits n [] h (omega arith)
 
 -- what a reading answers, refused or one of two
-either-read : (v : Bool) (x y : Answer) (part : List ℕ) → length (readText x part) ≤ room → length (readText y part) ≤ room
-    → length (readText (pick v x y) part) ≤ room
+either-read : (v : Bool) (x y : Answer) (part : List ℕ) → length (readText x part) ≤ brief → length (readText y part) ≤ brief
+    → length (readText (pick v x y) part) ≤ brief
 either-read true x y part h k = h
 either-read false x y part h k = k
 
-read-fits : (m : List ℕ) (x y : Answer) (part : List ℕ) → length (readText x part) ≤ room → length (readText y part) ≤ room
-    → length (readText (checked (readChecks m) refusedBy (pick (eqb (formatOf m) 11) x y)) part) ≤ room
+read-fits : (m : List ℕ) (x y : Answer) (part : List ℕ) → length (readText x part) ≤ brief → length (readText y part) ≤ brief
+    → length (readText (checked (readChecks m) refusedBy (pick (eqb (formatOf m) 11) x y)) part) ≤ brief
 unfolding All readChecks
 read-fits m x y part h k =
-    whichever (λ (a : Answer). length (readText a part) ≤ room) (readChecks m) refusedBy (pick (eqb (formatOf m) 11) x y)
+    whichever (λ (a : Answer). length (readText a part) ≤ brief) (readChecks m) refusedBy (pick (eqb (formatOf m) 11) x y)
     (refused-fits 1 part (omega arith), (refused-fits 14 part (omega arith), tt)) (λ p. either-read (eqb (formatOf m) 11) x y part h k)
 
-interrogation-fits : (msg : List ℕ) → length (interrogationText msg) ≤ room
+interrogation-fits : (msg : List ℕ) → length (interrogationText msg) ≤ brief
 unfolding interrogationText readAs allCallRead selectiveRead
 interrogation-fits msg =
     read-fits msg _ _ _
     (five-fits 11 _ _ _ _ _ (omega arith) (omega arith) (omega arith) (omega arith))
     (seven-fits _ _ _ _ _ _ _ _ (omega arith) (omega arith) (omega arith) (omega arith) (omega arith) (omega (arith, part-fits msg)))
 
-reply-fits : (msg : List ℕ) → length (replyText msg) ≤ room
+reply-fits : (msg : List ℕ) → length (replyText msg) ≤ brief
 unfolding replyText readAs allCallReplyRead surveillanceRead
 reply-fits msg =
     read-fits msg _ _ _
@@ -173,7 +173,7 @@ unfolding All codeOf
 code-number msg cl ic permit =
     whichever (λ (a : Answer). a .number ≤ 17) (codeOfChecks msg cl ic permit) refusedBy _ (omega arith, (omega arith, (omega arith, tt))) (λ p. omega arith)
 
-whose-fits : (msg : List ℕ) (cl ic permit : ℕ) → length (whoseText (codeOf msg cl ic permit)) ≤ room
+whose-fits : (msg : List ℕ) (cl ic permit : ℕ) → length (whoseText (codeOf msg cl ic permit)) ≤ brief
 unfolding whoseText
 whose-fits msg cl ic permit = answer-fits _ _ (code-number msg cl ic permit) (code-word-fits _)
 
@@ -192,28 +192,28 @@ lent-short true = omega arith
 lent-short false = omega arith
 
 -- the frame, or a refusal that leaves the lent buffer
-held-fits : (n : ℕ) (l : List ℕ) → n ≤ 17 → length l ≤ 14 → length (builtText (notBuilt l (check n true))) ≤ room
+held-fits : (n : ℕ) (l : List ℕ) → n ≤ 17 → length l ≤ 14 → length (builtText (notBuilt l (check n true))) ≤ brief
 unfolding builtText
 held-fits n l h k = answer-fits _ _ h (omega (arith, hex-of-length l))
 
-selective-fits : (uf pc rr di sd : ℕ) (ma : List ℕ) (address : ℕ) → length (selectiveText uf pc rr di sd ma address) ≤ room
+selective-fits : (uf pc rr di sd : ℕ) (ma : List ℕ) (address : ℕ) → length (selectiveText uf pc rr di sd ma address) ≤ brief
 unfolding All selectiveText building selective
 selective-fits uf pc rr di sd ma address =
     let l = replicate {A = ℕ} (lengthOf uf) 0 in
-    let by : (n : ℕ) → n ≤ 17 → length (builtText (notBuilt l (check n true))) ≤ room = λ n h. held-fits n l h (lent-short (longFormat uf)) in
-    whichever (λ (o : Building). length (builtText o) ≤ room) (buildingChecks uf pc rr di sd ma address l) (notBuilt l) _
+    let by : (n : ℕ) → n ≤ 17 → length (builtText (notBuilt l (check n true))) ≤ brief = λ n h. held-fits n l h (lent-short (longFormat uf)) in
+    whichever (λ (o : Building). length (builtText o) ≤ brief) (buildingChecks uf pc rr di sd ma address l) (notBuilt l) _
     (by 2 (omega arith), (by 1 (omega arith), (by 2 (omega arith), tt))) (λ p. held-fits 0 _ (omega arith) (frame-short (lengthOf uf) _ _ _))
 
-all-call-fits : (pr ic cl : ℕ) → length (builtText (allCalling pr ic cl (replicate 7 0))) ≤ room
+all-call-fits : (pr ic cl : ℕ) → length (builtText (allCalling pr ic cl (replicate 7 0))) ≤ brief
 unfolding All allCalling allCall
 all-call-fits pr ic cl =
     let l = replicate {A = ℕ} 7 0 in
-    whichever (λ (o : Building). length (builtText o) ≤ room) (allCallingChecks pr ic cl l) (notBuilt l) _
+    whichever (λ (o : Building). length (builtText o) ≤ brief) (allCallingChecks pr ic cl l) (notBuilt l) _
     (held-fits 1 l (omega arith) (omega arith), (held-fits 2 l (omega arith) (omega arith), tt)) (λ p. held-fits 0 _ (omega arith) (frame-short 7 _ _ _))
 
 -- ---- an altitude
 
-altitude-fits : (ac : ℕ) → length (feet-lines.answerText (altitude ac)) ≤ room
+altitude-fits : (ac : ℕ) → length (feet-lines.answerText (altitude ac)) ≤ brief
 altitude-fits ac = omega (arith, answer-short ac)
 
 -- ---- a meaning
@@ -228,15 +228,15 @@ meanings-fit : All (λ (t : List ℕ). length t ≤ 500) meanings
 unfolding All meanings
 meanings-fit = search arith depth 64
 
-refusal-short : (n : ℕ) → n ≤ 17 → length (refusalText n) ≤ room
+refusal-short : (n : ℕ) → n ≤ 17 → length (refusalText n) ≤ brief
 unfolding refusalText
 refusal-short n h = simp length-append (omega (arith, decimal-length 1 n (omega arith)))
 
-done-fits : (t : List ℕ) → length t ≤ 500 → length (doneText t) ≤ room
+done-fits : (t : List ℕ) → length t ≤ 500 → length (doneText t) ≤ brief
 unfolding doneText
 done-fits t h = simp length-append (omega arith)
 
-meaning-fits : (n : ℕ) → length (meaningText n) ≤ room
+meaning-fits : (n : ℕ) → length (meaningText n) ≤ brief
 unfolding meaningText
 meaning-fits n = either-fits (ltb n (length meanings)) _ _ (done-fits _ (each-fits meanings _ meanings-fit)) (refusal-short 2 (omega arith))
 
@@ -246,57 +246,57 @@ module _ (n : ℕ) (h : n < 256) where
   three-digits : length (decimal n) ≤ 3
   three-digits = decimal-length 2 n (omega arith)
 
-  pub wanted-fits : length (reasonText (Wanted n)) ≤ room
+  pub wanted-fits : length (reasonText (Wanted n)) ≤ brief
   unfolding reasonText
   wanted-fits = simp length-append (omega (arith, three-digits))
 
-  pub no-number-fits : length (reasonText (NoNumber n)) ≤ room
+  pub no-number-fits : length (reasonText (NoNumber n)) ≤ brief
   unfolding reasonText
   no-number-fits = simp length-append (omega (arith, three-digits))
 
-  pub no-bytes-fits : length (reasonText (NoBytes n)) ≤ room
+  pub no-bytes-fits : length (reasonText (NoBytes n)) ≤ brief
   unfolding reasonText
   no-bytes-fits = simp length-append (omega (arith, three-digits))
 
 -- ---- the lines
 
 module _ (ws : List (List ℕ)) where
-  pub remainder-fits : length (remainderText ws) ≤ room
+  pub remainder-fits : length (remainderText ws) ≤ brief
   unfolding remainderText
   remainder-fits = reckoned-fits _ (remainder-number _)
 
-  pub overlay-fits : length (overlayText ws) ≤ room
+  pub overlay-fits : length (overlayText ws) ≤ brief
   unfolding overlayText
   overlay-fits = reckoned-fits _ (overlay-number _)
 
-  pub correct-fits : length (correctText ws) ≤ room
+  pub correct-fits : length (correctText ws) ≤ brief
   unfolding correctText
   correct-fits = fixed-fits _ _ _ _ (bytes-short 1 ws)
 
-  pub build-fits : length (buildText ws) ≤ room
+  pub build-fits : length (buildText ws) ≤ brief
   unfolding buildText
   build-fits = selective-fits _ _ _ _ _ _ _
 
-  pub all-call-frame-fits : length (allCallText ws) ≤ room
+  pub all-call-frame-fits : length (allCallText ws) ≤ brief
   unfolding allCallText
   all-call-frame-fits = all-call-fits _ _ _
 
-  pub up-fits : length (upText ws) ≤ room
+  pub up-fits : length (upText ws) ≤ brief
   unfolding upText
   up-fits = interrogation-fits _
 
-  pub down-fits : length (downText ws) ≤ room
+  pub down-fits : length (downText ws) ≤ brief
   unfolding downText
   down-fits = reply-fits _
 
-  pub code-fits : length (codeText ws) ≤ room
+  pub code-fits : length (codeText ws) ≤ brief
   unfolding codeText
   code-fits = whose-fits _ _ _ _
 
-  pub feet-fits : length (feetText ws) ≤ room
+  pub feet-fits : length (feetText ws) ≤ brief
   unfolding feetText
   feet-fits = altitude-fits _
 
-  pub explain-fits : length (explainText ws) ≤ room
+  pub explain-fits : length (explainText ws) ≤ brief
   unfolding explainText
   explain-fits = meaning-fits _

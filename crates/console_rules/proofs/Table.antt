@@ -4,9 +4,10 @@ use native.Mathlib.Numerals.{add-one}
 use native.Mathlib.Omega.{arith}
 use mathlib.Core.Path.{_≡_, refl, ap, _∙_}
 use mathlib.Core.Bool.{Bool, true, false}
-use mathlib.Core.List.{List, [], _∷_, map}
+use mathlib.Core.List.{List, [], _∷_, _++_, map}
 use lib.ListN.{length, getD, take, drop, replicate, List·getD-map}
 use lib.Seq.{drop-cons}
+use Rattle.lists.specs.Lists.{pick}
 use Rattle.text_rules.specs.Line.{linesOf, wordsOf, parts, full, grown, blank, newline, sameAs}
 use Rattle.text_rules.specs.Plain.{plain}
 use Rattle.console_rules.specs.Texts.{word}
@@ -16,8 +17,12 @@ use Rattle.console_rules.specs.Help.{helpText}
 use Rattle.console_rules.specs.Names.{Named, table, noRow, rowIn, rowOf, rowCount, rowAt}
 
 -- the names as the words of one text
-pub names-are : (k : ℕ)
-    → getD (wordsOf (plain "remainder overlay correct build allcall up down code feet model queue send state explain quit help")) k [] ≡ rowAt k .name
+abbrev pub names : List ℕ
+names =
+    plain "remainder overlay correct build allcall up down code feet model queue send state setup target remove move request plan reply report "
+    ++ plain "targets entries explain quit help"
+
+pub names-are : (k : ℕ) → getD (wordsOf names) k [] ≡ rowAt k .name
 unfolding wordsOf parts full grown blank table rowAt
 names-are k = List·getD-map (λ (n : Named). n .name) table k (record { name = []; row = noRow })
 
@@ -73,11 +78,15 @@ pub no-rows : (w : List ℕ) (k : ℕ) → rowOf w ≡ rowIn w (drop k table) �
 unfolding table rowIn
 no-rows w k e h = rw h at e
 
--- the lines of help begin with the names, in the table's order, and each has behind its name as many words as its line
-pub help-named : map (λ (l : List ℕ). word 0 (wordsOf l)) (linesOf helpText) ≡ map (λ (n : Named). n .name) (take 15 table)
+-- the lines of help begin with the names, in the table's order, and each has behind its name as many words as its line, where `..` stands for six
+abbrev pub wordsIn : List (List ℕ) → ℕ
+wordsIn [] = 0
+wordsIn (w ∷ ws) = pick (sameAs w (plain "..")) 6 1 + wordsIn ws
+
+pub help-named : map (λ (l : List ℕ). word 0 (wordsOf l)) (linesOf helpText) ≡ map (λ (n : Named). n .name) (take 25 table)
 unfolding word wordsOf linesOf parts full grown blank newline table
 help-named = refl
 
-pub help-counted : map (λ (l : List ℕ). length (wordsOf l)) (linesOf helpText) ≡ map (λ (n : Named). suc (n .row .words)) (take 15 table)
-unfolding wordsOf linesOf parts full grown blank newline table
+pub help-counted : map (λ (l : List ℕ). wordsIn (wordsOf l)) (linesOf helpText) ≡ map (λ (n : Named). suc (n .row .words)) (take 25 table)
+unfolding wordsOf linesOf parts full grown blank newline table sameAs
 help-counted = refl

@@ -23,6 +23,8 @@ use Rattle.model_rules.specs.Lockout.{locks}
 use Rattle.model_rules.specs.Calls.{newborn, making, queuing, taking}
 use Rattle.console_rules.specs.declared.state.Aircraft.{Aircraft}
 use Rattle.console_rules.specs.declared.state.Shown.{Shown}
+use Rattle.console_rules.specs.declared.names.FlightLine.{FlightLine}
+use Rattle.console_rules.specs.declared.names.FlightLine.the-variants.{Model, Queue, Send, State}
 
 -- ---- the aircraft
 
@@ -39,7 +41,7 @@ pub record Said : Type 0 where
   pub text : List ℕ
   pub aircraft : Aircraft
 
--- the text was laid at the front of a buffer, and the answer has the aircraft; the text is at most the 512 bytes that the program lends,
+-- the text was laid at the front of a buffer, and the answer has the aircraft; the text is at most 512 bytes,
 -- since an aircraft's numbers have the bits of their types
 pub record Showed (s : Said) (before after : List ℕ) (r : Shown) : Type 0 where
   pub text-put : Put (s .text) 0 before after (r .size)
@@ -118,3 +120,10 @@ stateText t = shownText (t .time) (t .holder) (length (waiting (t .messages))) (
 -- nothing changes
 unfoldable pub stateSaid : Aircraft → Said
 stateSaid a = saying (stateText (a .transponder)) a
+
+-- ---- each line
+unfoldable pub flightSaid : FlightLine → Aircraft → List (List ℕ) → Said
+flightSaid Model a ws = modelSaid a ws
+flightSaid Queue a ws = queueSaid a ws
+flightSaid Send a ws = sendSaid a ws
+flightSaid State a ws = stateSaid a

@@ -8,67 +8,55 @@ use lib.ListN.{length}
 use Rattle.lists.specs.Lists.{pick}
 use Rattle.text_rules.specs.Put.{Put}
 use Rattle.text_rules.specs.Line.{linesOf, wordsOf}
-use Rattle.console_rules.specs.Texts.{word}
-use Rattle.console_rules.specs.Parity.{remainderText, overlayText, correctText}
-use Rattle.console_rules.specs.Building.{buildText, allCallText}
-use Rattle.console_rules.specs.Frames.{upText, downText, codeText}
-use Rattle.console_rules.specs.Feet.{feetText}
-use Rattle.console_rules.specs.Explain.{explainText}
+use Rattle.station_rules.specs.State.{beforeSetup}
+use Rattle.console_rules.specs.Texts.{word, room}
+use Rattle.console_rules.specs.PlainLines.{plainText}
 use Rattle.console_rules.specs.declared.state.Bench.{Bench}
 use Rattle.console_rules.specs.declared.state.Answered.{Answered}
-use Rattle.console_rules.specs.Aircraft.{Said, unmade, modelSaid, queueSaid, sendSaid, stateSaid}
+use Rattle.console_rules.specs.Aircraft.{Said, unmade, flightSaid}
+use Rattle.console_rules.specs.Station.{Spoken, stationSpoken}
 use Rattle.console_rules.specs.declared.names.Command.{Command}
-use Rattle.console_rules.specs.declared.names.Command.the-variants.{Remainder, Overlay, Correct, Build, AllCall, Up, Down, Code, Feet, Model, Queue}
-use Rattle.console_rules.specs.declared.names.Command.the-variants.{Send, State, Explain, Quit, Help, Unknown}
+use Rattle.console_rules.specs.declared.names.Command.the-variants.{Plain, Flight, Station, Quit, Unknown}
 use Rattle.console_rules.specs.declared.names.Row.{Row}
 use Rattle.console_rules.specs.declared.names.Reason.{Reason}
 use Rattle.console_rules.specs.Names.{rowOf}
 use Rattle.console_rules.specs.Reasons.{tooLong, isTooLong, reasonOf, isRead, reasonText}
-use Rattle.console_rules.specs.Help.{helpText}
 
 -- ---- what a line tells: the text that it prints, and the bench that it leaves
 pub record Told : Type 0 where
   pub text : List ℕ
   pub bench : Bench
 
--- the text was laid at the front of a buffer, and the answer has the bench; the text is at most the 512 bytes that the program lends
+-- the text was laid at the front of a buffer, and the answer has the bench; the text fits the buffer that the program lends
 pub record Answers (t : Told) (before after : List ℕ) (r : Answered) : Type 0 where
   pub text-put : Put (t .text) 0 before after (r .size)
   pub bench : r .bench ≡ t .bench
-  pub short : length (t .text) ≤ 512
+  pub short : length (t .text) ≤ room
 
 -- a text, and the bench stays as it was
 abbrev pub telling : List ℕ → Bench → Told
 telling t b = record { text = t; bench = b }
 
--- what a line of the aircraft says, and the bench with the aircraft that it leaves
+-- what a line of the aircraft says, and the bench with the aircraft that it leaves; the station stays as it was
 abbrev pub flown : Bench → Said → Told
-flown b s = record { text = s .text; bench = record { aircraft = s .aircraft; over = b .over } }
+flown b s = record { text = s .text; bench = record { aircraft = s .aircraft; station = b .station; over = b .over } }
+
+-- what a line of the station says, and the bench with the station that it leaves; the aircraft stays as it was
+abbrev pub served : Bench → Spoken → Told
+served b s = record { text = s .text; bench = record { aircraft = b .aircraft; station = s .station; over = b .over } }
 
 -- the bench of a console that was quit
 abbrev pub ended : Bench → Bench
-ended b = record { aircraft = b .aircraft; over = true }
+ended b = record { aircraft = b .aircraft; station = b .station; over = true }
 
 -- ---- a line
 
 -- what a call tells for the bench and the words of its line
 unfoldable pub callTold : Command → Bench → List (List ℕ) → Told
-callTold Remainder b ws = telling (remainderText ws) b
-callTold Overlay b ws = telling (overlayText ws) b
-callTold Correct b ws = telling (correctText ws) b
-callTold Build b ws = telling (buildText ws) b
-callTold AllCall b ws = telling (allCallText ws) b
-callTold Up b ws = telling (upText ws) b
-callTold Down b ws = telling (downText ws) b
-callTold Code b ws = telling (codeText ws) b
-callTold Feet b ws = telling (feetText ws) b
-callTold Model b ws = flown b (modelSaid (b .aircraft) ws)
-callTold Queue b ws = flown b (queueSaid (b .aircraft) ws)
-callTold Send b ws = flown b (sendSaid (b .aircraft) ws)
-callTold State b ws = flown b (stateSaid (b .aircraft))
-callTold Explain b ws = telling (explainText ws) b
+callTold (Plain l) b ws = telling (plainText l ws) b
+callTold (Flight l) b ws = flown b (flightSaid l (b .aircraft) ws)
+callTold (Station l) b ws = served b (stationSpoken l (b .station) ws)
 callTold Quit b ws = telling [] (ended b)
-callTold Help b ws = telling helpText b
 callTold Unknown b ws = telling [] b
 
 -- a line that is not read says why, and leaves the bench as it was
@@ -110,9 +98,9 @@ unfoldable pub linesText : Bench → List (List ℕ) → List ℕ
 linesText b [] = []
 linesText b (l ∷ ls) = lineText b l ++ linesText (lineLeaves b l) ls
 
--- no aircraft, and nobody has quit
+-- no aircraft, the station as it is before any setup, and nobody has quit
 abbrev pub begun : Bench
-begun = record { aircraft = unmade; over = false }
+begun = record { aircraft = unmade; station = beforeSetup; over = false }
 
 -- the whole run: line after line
 unfoldable pub consoleText : List ℕ → List ℕ

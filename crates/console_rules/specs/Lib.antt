@@ -6,8 +6,10 @@ pub mod Frames
 pub mod FeetLines
 pub mod Feet
 pub mod Aircraft
+pub mod Station
 pub mod Explain
+pub mod Help
+pub mod PlainLines
 pub mod Names
 pub mod Reasons
-pub mod Help
 pub mod Console

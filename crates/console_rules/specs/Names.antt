@@ -7,9 +7,14 @@ use lib.ListN.{getD}
 use Rattle.lists.specs.Lists.{pick}
 use Rattle.text_rules.specs.Line.{sameAs}
 use Rattle.text_rules.specs.Plain.{plain}
+use Rattle.console_rules.specs.declared.names.PlainLine.{PlainLine}
+use Rattle.console_rules.specs.declared.names.PlainLine.the-variants as plain-line
+use Rattle.console_rules.specs.declared.names.FlightLine.{FlightLine}
+use Rattle.console_rules.specs.declared.names.FlightLine.the-variants as flight-line
+use Rattle.console_rules.specs.declared.names.StationLine.{StationLine}
+use Rattle.console_rules.specs.declared.names.StationLine.the-variants as station-line
 use Rattle.console_rules.specs.declared.names.Command.{Command}
-use Rattle.console_rules.specs.declared.names.Command.the-variants.{Remainder, Overlay, Correct, Build, AllCall, Up, Down, Code, Feet, Model, Queue}
-use Rattle.console_rules.specs.declared.names.Command.the-variants.{Send, State, Explain, Quit, Help, Unknown}
+use Rattle.console_rules.specs.declared.names.Command.the-variants.{Plain, Flight, Station, Quit, Unknown}
 use Rattle.console_rules.specs.declared.names.Row.{Row}
 
 -- a line's name, and what the line is made of
@@ -23,34 +28,50 @@ abbrev pub line : String → Command → ℕ → ℕ → ℕ → Named
 line name c words bytes more =
     record { name = plain name; row = record { known = true; command = c; words = words; bytes = bytes; more = more; aircraft = false } }
 
--- one that needs an aircraft
-abbrev pub flight : String → Command → ℕ → ℕ → Named
-flight name c words bytes =
-    record { name = plain name; row = record { known = true; command = c; words = words; bytes = bytes; more = 0; aircraft = true } }
+-- one without a state, one of the station, and one of the aircraft, which needs an aircraft
+abbrev pub simple : String → PlainLine → ℕ → ℕ → ℕ → Named
+simple name l words bytes more = line name (Plain l) words bytes more
+
+abbrev pub service : String → StationLine → ℕ → ℕ → ℕ → Named
+service name l words bytes more = line name (Station l) words bytes more
+
+abbrev pub flight : String → FlightLine → ℕ → ℕ → Named
+flight name l words bytes =
+    record { name = plain name; row = record { known = true; command = Flight l; words = words; bytes = bytes; more = 0; aircraft = true } }
 
 -- the lines
 unfoldable pub table : List Named
 table =
-    line "remainder" Remainder 1 1 0 ∷
-    line "overlay" Overlay 1 0 0 ∷
-    line "correct" Correct 4 1 2 ∷
-    line "build" Build 7 6 0 ∷
-    line "allcall" AllCall 3 0 0 ∷
-    line "up" Up 1 1 0 ∷
-    line "down" Down 1 1 0 ∷
-    line "code" Code 4 1 0 ∷
-    line "feet" Feet 1 0 0 ∷
-    line "model" Model 5 0 0 ∷
-    flight "queue" Queue 1 1 ∷
-    flight "send" Send 3 3 ∷
-    flight "state" State 0 0 ∷
-    line "explain" Explain 1 0 0 ∷
+    simple "remainder" plain-line.Remainder 1 1 0 ∷
+    simple "overlay" plain-line.Overlay 1 0 0 ∷
+    simple "correct" plain-line.Correct 4 1 2 ∷
+    simple "build" plain-line.Build 7 6 0 ∷
+    simple "allcall" plain-line.AllCall 3 0 0 ∷
+    simple "up" plain-line.Up 1 1 0 ∷
+    simple "down" plain-line.Down 1 1 0 ∷
+    simple "code" plain-line.Code 4 1 0 ∷
+    simple "feet" plain-line.Feet 1 0 0 ∷
+    line "model" (Flight flight-line.Model) 5 0 0 ∷
+    flight "queue" flight-line.Queue 1 1 ∷
+    flight "send" flight-line.Send 3 3 ∷
+    flight "state" flight-line.State 0 0 ∷
+    service "setup" station-line.Setup 19 0 0 ∷
+    service "target" station-line.Target 3 0 0 ∷
+    service "remove" station-line.Remove 1 0 0 ∷
+    service "move" station-line.Move 3 0 0 ∷
+    service "request" station-line.Request 8 8 0 ∷
+    service "plan" station-line.Plan 1 0 0 ∷
+    service "reply" station-line.Reply 4 3 4 ∷
+    service "report" station-line.Report 1 0 0 ∷
+    service "targets" station-line.Targets 0 0 0 ∷
+    service "entries" station-line.Entries 0 0 0 ∷
+    simple "explain" plain-line.Explain 1 0 0 ∷
     line "quit" Quit 0 0 0 ∷
-    line "help" Help 0 0 0 ∷ []
+    simple "help" plain-line.Help 0 0 0 ∷ []
 
 -- how many they are
 abbrev pub rowCount : ℕ
-rowCount = 16
+rowCount = 26
 
 -- where there is none
 abbrev pub noRow : Row

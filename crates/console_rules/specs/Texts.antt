@@ -55,7 +55,11 @@ refusalText n = decimal n ++ plain "\n"
 unfoldable pub answerText : ℕ → List ℕ → List ℕ
 answerText n value = pick (eqb n 0) (doneText value) (refusalText n)
 
--- the text was laid at the front of a buffer, and is at most the 512 bytes that the program lends
+-- the buffer that the program lends: room for the lines of 128 entries, or of 64 targets
+abbrev pub room : ℕ
+room = 12288
+
+-- a text that lists neither: it was laid at the front of a buffer, and is at most 512 bytes
 pub record Brief (t before after : List ℕ) (r : ℕ) : Type 0 where
   pub text-put : Put t 0 before after r
   pub short : length t ≤ 512

@@ -5,9 +5,13 @@ mod names;
 mod state;
 
 pub use names::Command;
+pub use names::FlightLine;
+pub use names::PlainLine;
 pub use names::Reason;
 pub use names::Row;
+pub use names::StationLine;
 pub use state::Aircraft;
 pub use state::Answered;
 pub use state::Bench;
+pub use state::Served;
 pub use state::Shown;

@@ -1,7 +1,7 @@
 // The lines of the console: their calls, and what each is made of.
 
-// A call of the console.
-pub enum Command {
+// A line without a state.
+pub enum PlainLine {
     Remainder,
     Overlay,
     Correct,
@@ -11,13 +11,38 @@ pub enum Command {
     Down,
     Code,
     Feet,
+    Explain,
+    Help,
+}
+
+// A line of the aircraft.
+pub enum FlightLine {
     Model,
     Queue,
     Send,
     State,
-    Explain,
+}
+
+// A line of the station.
+pub enum StationLine {
+    Setup,
+    Target,
+    Remove,
+    Move,
+    Request,
+    Plan,
+    Reply,
+    Report,
+    Targets,
+    Entries,
+}
+
+// A call of the console.
+pub enum Command {
+    Plain(PlainLine),
+    Flight(FlightLine),
+    Station(StationLine),
     Quit,
-    Help,
     Unknown,
 }
 

@@ -1,5 +1,6 @@
 // What the console has on its bench, and what a line that may change it answers.
 use model_rules::Transponder;
+use station_rules::Station;
 
 // Whether an aircraft was made, and its transponder, which is of no use before.
 pub struct Aircraft {
@@ -13,9 +14,16 @@ pub struct Shown {
     pub aircraft: Aircraft,
 }
 
-// The aircraft, and whether the console was quit.
+// A line of the station was answered: how many bytes of text stand in the lent buffer, and the station afterwards.
+pub struct Served {
+    pub size: usize,
+    pub station: Station,
+}
+
+// The aircraft, the station, and whether the console was quit.
 pub struct Bench {
     pub aircraft: Aircraft,
+    pub station: Station,
     pub over: bool,
 }
 

@@ -1,7 +1,8 @@
 -- What the calls of the stream leave: the lines of the definitions laid into the lent buffer, and the station or the run after them.
-use Prim.Native.Nat.{ℕ, _+_, _≤_}
+use Prim.Native.Nat.{ℕ, _≤_}
 use mathlib.Core.List.{List}
 use mathlib.Core.Path.{_≡_}
+use lib.ListN.{length}
 use Rattle.text_rules.specs.Put.{Put}
 use Rattle.reader_rules.specs.Records.{recordAt, nextPlace}
 use Rattle.station_rules.specs.declared.state.Station.{Station}
@@ -12,10 +13,10 @@ use Rattle.stream_rules.specs.Run.{obeyedAt, goesOn, linesNow, advanced, longes
 use Rattle.stream.specs.declared.obey.Done.{Done}
 use Rattle.stream.specs.declared.step.Step.{Step}
 
--- a call laid a text into a buffer at a place, and answered the place after it, which is at most k further
+-- a call laid a text of at most k bytes into a buffer at a place, and answered the place after it
 pub record Within (k : ℕ) (t : List ℕ) (at : ℕ) (before after : List ℕ) (r : ℕ) : Type 0 where
   pub put : Put t at before after r
-  pub short : r ≤ at + k
+  pub short : length t ≤ k
 
 -- a call did what the definition says: the station afterwards, and the lines at a place of the buffer, of which there are at most 9,252 bytes
 pub record Did (o : Obeyed) (at : ℕ) (before after : List ℕ) (r : Done) : Type 0 where

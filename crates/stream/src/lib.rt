@@ -12,6 +12,7 @@ pub use answers::put_answer;
 pub use answers::put_reply_answer;
 pub use entries::put_entries;
 pub use entries::put_entry;
+pub use entries::put_entry_head;
 pub use report::put_report;
 pub use run::ROOM;
 pub use run::advance;

@@ -1,4 +1,5 @@
 -- The theorems on runs, on the calls that records spell, on what a reader finds and on each record's lines; and worked streams.
+pub mod Spaced
 pub mod Runs
 pub mod Spelled
 pub mod ReadBack

@@ -19,6 +19,11 @@ line [] = 10 ∷ []
 line (w ∷ []) = followed w 10
 line (w ∷ v ∷ ws) = followed w 32 ++ line (v ∷ ws)
 
+-- words, each with a space behind it
+unfoldable pub spaced : List (List ℕ) → List ℕ
+spaced [] = []
+spaced (w ∷ ws) = followed w 32 ++ spaced ws
+
 -- number, kind, answer
 unfoldable pub answerLine : ℕ → ℕ → ℕ → List ℕ
 answerLine n kind answer = line (decimal n ∷ decimal kind ∷ decimal answer ∷ [])
@@ -28,16 +33,18 @@ unfoldable pub replyLine : ℕ → ℕ → ℕ → ℤ → List ℕ
 replyLine n kind flips delay = line (decimal n ∷ decimal kind ∷ decimal 0 ∷ decimal flips ∷ signedDecimal delay ∷ [])
 
 -- entry, unit, address, start, window start, window end
-unfoldable pub entryLine : ℕ → Entry → List ℕ
-entryLine k e =
-    line
-    (decimal k
+abbrev pub entryWords : ℕ → Entry → List (List ℕ)
+entryWords k e =
+    decimal k
     ∷ decimal (e .ask .request .unit)
     ∷ decimal (e .ask .request .address)
     ∷ decimal (e .start)
     ∷ decimal (listens e .lo)
     ∷ decimal (listens e .hi)
-    ∷ [])
+    ∷ []
+
+unfoldable pub entryLine : ℕ → Entry → List ℕ
+entryLine k e = line (entryWords k e)
 
 -- the entries from number k on, a line each
 unfoldable pub entryLines : ℕ → List Entry → List ℕ

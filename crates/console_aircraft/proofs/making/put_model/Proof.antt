@@ -1,9 +1,5 @@
 -- `put_model` reads five numbers, and has the aircraft made of them.
-use Rattle.console_aircraft.proofs.making.put_made.Reads as put-made-reads
-use Rattle.console_aircraft.proofs.making.put_model.Lts as lts
 use Rattle.console_aircraft.proofs.making.put_model.Reads as reads
-use Rattle.console_plain.proofs.number_at.Reads as number-at-reads
-use Rattle.model.proofs.make.Reads as make-reads
 use borrow.Author.Needs.{needs}
 use Rattle.console_plain.proofs.Texts.{lent}
 use Rattle.console_aircraft.proofs.Texts.{by-words}

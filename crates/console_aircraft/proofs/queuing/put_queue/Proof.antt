@@ -1,9 +1,5 @@
 -- `put_queue` reads one word of bytes, and queues them.
-use Rattle.console_aircraft.proofs.queuing.put_queue.Lts as lts
 use Rattle.console_aircraft.proofs.queuing.put_queue.Reads as reads
-use Rattle.console_aircraft.proofs.queuing.put_queued.Reads as put-queued-reads
-use Rattle.console_plain.proofs.bytes_at.Reads as bytes-at-reads
-use Rattle.model.proofs.queue.Reads as queue-reads
 use borrow.Author.Needs.{needs}
 use Rattle.console_plain.proofs.Texts.{lent}
 use Rattle.console_aircraft.proofs.Texts.{by-words}

@@ -1,7 +1,4 @@
 -- `put_state` shows the aircraft's parts.
-use Rattle.console_aircraft.proofs.showing.put_state.Lts as lts
-use Rattle.console_aircraft.proofs.showing.put_state.Reads as reads
-use Rattle.console_aircraft.proofs.showing.put_transponder.Reads as put-transponder-reads
 use borrow.Author.Needs.{needs}
 use Rattle.console_rules.specs.Aircraft.{stateSaid}
 use Rattle.console_aircraft.proofs.showing.put_state.Statement.{statement}

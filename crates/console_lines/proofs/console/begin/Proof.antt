@@ -1,10 +1,8 @@
--- `begin` has no aircraft.
-use Rattle.console_aircraft.proofs.none.Reads as none-reads
-use Rattle.console_lines.proofs.console.begin.Lts as lts
-use Rattle.console_lines.proofs.console.begin.Reads as reads
-use mathlib.Core.Path.{ap}
+-- `begin` has no aircraft, and the station before any setup.
+use mathlib.Core.Path.{ap₂}
 use mathlib.Core.Bool.{false}
 use Rattle.console_rules.specs.declared.state.Aircraft.{Aircraft}
+use Rattle.station_rules.specs.declared.state.Station.{Station}
 use borrow.Author.Needs.{needs}
 use Rattle.console_lines.proofs.console.begin.Statement.{statement}
 use Rattle.console_lines.proofs.console.begin.Tie as tie
@@ -14,4 +12,5 @@ begin-spec =
     tie.close
     (tie.spec
     (λ c. search needs)
-    (λ c. ap (λ (a : Aircraft). record { aircraft = a; over = false }) (c .none .ensures)))
+    (λ c. search needs)
+    (λ c. ap₂ (λ (a : Aircraft) (s : Station). record { aircraft = a; station = s; over = false }) (c .before .none .ensures) (c .before-setup .ensures)))

@@ -15,4 +15,5 @@ row-at-spec =
     (λ c. search needs)
     (λ c. search needs)
     (λ c. search needs)
+    (λ c. search needs)
     (λ c. row-is _ _ _ _ _ _ (search needs)))

@@ -1,8 +1,5 @@
 -- `is_bytes` looks at both places.
-use Rattle.console_lines.proofs.reasons.is_bytes.Lts as lts
-use Rattle.console_lines.proofs.reasons.is_bytes.Reads as reads
 use Rattle.console_lines.proofs.Judging.{first-bytes, more-bytes}
-use borrow.Author.Needs.{needs}
 use Rattle.console_lines.proofs.reasons.is_bytes.Statement.{statement}
 use Rattle.console_lines.proofs.reasons.is_bytes.Tie as tie
 

@@ -1,8 +1,5 @@
 -- `is_grounded` looks whether one is needed, and then whether there is one.
-use Rattle.console_lines.proofs.reasons.is_grounded.Lts as lts
-use Rattle.console_lines.proofs.reasons.is_grounded.Reads as reads
 use Rattle.console_lines.proofs.Judging.{lacking-none, lacking}
-use borrow.Author.Needs.{needs}
 use Rattle.console_lines.proofs.reasons.is_grounded.Statement.{statement}
 use Rattle.console_lines.proofs.reasons.is_grounded.Tie as tie
 

@@ -1,6 +1,4 @@
 -- `is_read` goes by the reason.
-use Rattle.console_lines.proofs.reasons.is_read.Lts as lts
-use Rattle.console_lines.proofs.reasons.is_read.Reads as reads
 use Rattle.console_rules.specs.Reasons.{isRead}
 use borrow.Author.Needs.{needs}
 use Rattle.console_lines.proofs.reasons.is_read.Statement.{statement}

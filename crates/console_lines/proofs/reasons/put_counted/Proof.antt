@@ -1,8 +1,4 @@
 -- `put_counted` lays a text, a number and a text.
-use Rattle.console_lines.proofs.reasons.put_counted.Lts as lts
-use Rattle.console_lines.proofs.reasons.put_counted.Reads as reads
-use Rattle.text.proofs.put_bytes.Reads as put-bytes-reads
-use Rattle.text.proofs.put_decimal.Reads as put-decimal-reads
 use Rattle.text_rules.proofs.Laid.{put-then}
 use borrow.Author.Needs.{needs}
 use Rattle.console_lines.proofs.reasons.put_counted.Statement.{statement}

@@ -1,8 +1,4 @@
 -- `put_reason` goes by the reason; a number in it has three digits at most.
-use Rattle.console_lines.proofs.reasons.put_counted.Reads as put-counted-reads
-use Rattle.console_lines.proofs.reasons.put_reason.Lts as lts
-use Rattle.console_lines.proofs.reasons.put_reason.Reads as reads
-use Rattle.text.proofs.put_bytes.Reads as put-bytes-reads
 use Rattle.console_rules.specs.Reasons.{reasonText}
 use Rattle.console_lines.proofs.Judging.{read-laid, reasons}
 use borrow.Author.Needs.{needs}

@@ -1,7 +1,4 @@
 -- `word_reason` goes by what belongs at the word.
-use Rattle.console_lines.proofs.reasons.is_bytes.Reads as is-bytes-reads
-use Rattle.console_lines.proofs.reasons.word_reason.Lts as lts
-use Rattle.console_lines.proofs.reasons.word_reason.Reads as reads
 use Rattle.console_lines.proofs.Judging.{words}
 use borrow.Author.Needs.{needs}
 use Rattle.console_lines.proofs.reasons.word_reason.Statement.{statement}

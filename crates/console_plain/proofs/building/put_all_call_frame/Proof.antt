@@ -1,12 +1,8 @@
 -- `put_all_call_frame` reads three numbers, and lays the all-call of what they say.
-use Rattle.console_plain.proofs.building.put_all_call_frame.Lts as lts
 use Rattle.console_plain.proofs.building.put_all_call_frame.Reads as reads
-use Rattle.console_plain.proofs.building.put_built.Reads as put-built-reads
-use Rattle.console_plain.proofs.words.number_at.Reads as number-at-reads
-use Rattle.frames.proofs.all_call.Reads as all-call-reads
 use borrow.Author.Needs.{needs}
 use Rattle.console_plain.proofs.Texts.{lent}
-use Rattle.console_plain.proofs.Lines.{by-words}
+use Rattle.console_plain.proofs.ByWords.{by-words}
 use Rattle.console_plain.proofs.building.put_all_call_frame.Statement.{statement}
 use Rattle.console_plain.proofs.building.put_all_call_frame.Tie as tie
 

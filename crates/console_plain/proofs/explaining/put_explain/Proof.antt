@@ -1,11 +1,8 @@
 -- `put_explain` reads one number, and lays what it means.
-use Rattle.console_plain.proofs.explaining.put_explain.Lts as lts
 use Rattle.console_plain.proofs.explaining.put_explain.Reads as reads
-use Rattle.console_plain.proofs.explaining.put_meaning.Reads as put-meaning-reads
-use Rattle.console_plain.proofs.words.number_at.Reads as number-at-reads
 use borrow.Author.Needs.{needs}
 use Rattle.console_plain.proofs.Texts.{lent}
-use Rattle.console_plain.proofs.Lines.{by-words}
+use Rattle.console_plain.proofs.ByWords.{by-words}
 use Rattle.console_plain.proofs.explaining.put_explain.Statement.{statement}
 use Rattle.console_plain.proofs.explaining.put_explain.Tie as tie
 

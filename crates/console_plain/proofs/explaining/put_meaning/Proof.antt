@@ -1,15 +1,9 @@
 -- `put_meaning` finds the line of a number among the meanings.
-use Rattle.console_plain.proofs.answers.put_refusal.Reads as put-refusal-reads
-use Rattle.console_plain.proofs.explaining.put_meaning.Lts as lts
-use Rattle.console_plain.proofs.explaining.put_meaning.Reads as reads
-use Rattle.text.proofs.nth_line.Reads as nth-line-reads
-use Rattle.text.proofs.put_byte.Reads as put-byte-reads
-use Rattle.text.proofs.put_bytes.Reads as put-bytes-reads
 use borrow.Author.Needs.{needs}
 use Rattle.text_rules.proofs.Laid.{put-then}
 use Rattle.console_rules.specs.Texts.{doneText}
 use Rattle.console_rules.specs.Explain.{meanings}
-use Rattle.console_plain.proofs.Lines.{meaning-none, meaning-line}
+use Rattle.console_plain.proofs.ByWords.{meaning-none, meaning-line}
 use Rattle.console_plain.proofs.explaining.put_meaning.Statement.{statement}
 use Rattle.console_plain.proofs.explaining.put_meaning.Tie as tie
 

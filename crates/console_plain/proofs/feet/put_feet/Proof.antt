@@ -1,11 +1,8 @@
 -- `put_feet` reads one number, and lays the answer for it.
-use Rattle.console_plain.proofs.feet.put_feet.Lts as lts
 use Rattle.console_plain.proofs.feet.put_feet.Reads as reads
-use Rattle.console_plain.proofs.words.number_at.Reads as number-at-reads
-use Rattle.feet_lines.proofs.put_answer.Reads as put-answer-reads
 use borrow.Author.Needs.{needs}
 use Rattle.console_plain.proofs.Texts.{lent}
-use Rattle.console_plain.proofs.Lines.{by-words}
+use Rattle.console_plain.proofs.ByWords.{by-words}
 use Rattle.console_plain.proofs.feet.put_feet.Statement.{statement}
 use Rattle.console_plain.proofs.feet.put_feet.Tie as tie
 

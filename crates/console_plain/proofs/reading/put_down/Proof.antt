@@ -1,11 +1,8 @@
 -- `put_down` reads one word of bytes, and lays the reply that they are.
-use Rattle.console_plain.proofs.reading.put_down.Lts as lts
 use Rattle.console_plain.proofs.reading.put_down.Reads as reads
-use Rattle.console_plain.proofs.reading.put_reply.Reads as put-reply-reads
-use Rattle.console_plain.proofs.words.bytes_at.Reads as bytes-at-reads
 use borrow.Author.Needs.{needs}
 use Rattle.console_plain.proofs.Texts.{lent}
-use Rattle.console_plain.proofs.Lines.{by-words}
+use Rattle.console_plain.proofs.ByWords.{by-words}
 use Rattle.console_plain.proofs.reading.put_down.Statement.{statement}
 use Rattle.console_plain.proofs.reading.put_down.Tie as tie
 

@@ -1,12 +1,8 @@
 -- `put_remainder` reads one word of bytes, and lays their remainder.
-use Rattle.console_plain.proofs.answers.put_reckoned.Reads as put-reckoned-reads
-use Rattle.console_plain.proofs.reckoning.put_remainder.Lts as lts
 use Rattle.console_plain.proofs.reckoning.put_remainder.Reads as reads
-use Rattle.console_plain.proofs.words.bytes_at.Reads as bytes-at-reads
-use Rattle.parity.proofs.remainder.Reads as remainder-reads
 use borrow.Author.Needs.{needs}
 use Rattle.console_plain.proofs.Texts.{lent}
-use Rattle.console_plain.proofs.Lines.{by-words}
+use Rattle.console_plain.proofs.ByWords.{by-words}
 use Rattle.console_plain.proofs.reckoning.put_remainder.Statement.{statement}
 use Rattle.console_plain.proofs.reckoning.put_remainder.Tie as tie
 

@@ -1,8 +1,5 @@
 -- `number_at` reads the word with that number.
-use Rattle.console_plain.proofs.words.number_at.Lts as lts
 use Rattle.console_plain.proofs.words.number_at.Reads as reads
-use Rattle.text.proofs.nth_word.Reads as nth-word-reads
-use Rattle.text.proofs.number_of.Reads as number-of-reads
 use borrow.Author.Needs.{needs}
 use Rattle.console_plain.proofs.Texts.{reads}
 use Rattle.console_plain.proofs.words.number_at.Statement.{statement}

@@ -1,8 +1,4 @@
 -- `says_at` looks at the word with that number.
-use Rattle.console_plain.proofs.words.says_at.Lts as lts
-use Rattle.console_plain.proofs.words.says_at.Reads as reads
-use Rattle.console_plain.proofs.words.word_says.Reads as word-says-reads
-use Rattle.text.proofs.nth_word.Reads as nth-word-reads
 use borrow.Author.Needs.{needs}
 use Rattle.console_plain.proofs.Texts.{same-says}
 use Rattle.console_plain.proofs.words.says_at.Statement.{statement}

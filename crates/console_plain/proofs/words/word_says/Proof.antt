@@ -1,8 +1,5 @@
 -- `word_says` reads the word, and tells whether it says something.
-use Rattle.console_plain.proofs.words.word_says.Lts as lts
 use Rattle.console_plain.proofs.words.word_says.Reads as reads
-use Rattle.text.proofs.hex_bytes.Reads as hex-bytes-reads
-use Rattle.text.proofs.number_of.Reads as number-of-reads
 use borrow.Author.Needs.{needs}
 use Rattle.console_plain.proofs.Texts.{told}
 use Rattle.console_plain.proofs.words.word_says.Statement.{statement}

@@ -1,84 +1,46 @@
 -- `put_entries` has put the lines of the entries before place i.
-use Prim.Native.Nat.{_+_, _*_, _-_, _≤_}
+use Prim.Native.Nat.{_*_, _-_, _≤_}
 use native.Mathlib.Omega.{arith}
 use mathlib.Core.Path.{_≡_}
 use lib.ListN.{length, take, drop}
-use Rattle.lists.proofs.Front.{length-mapped}
-use Rattle.text_rules.proofs.Laid.{Still, put-inside, put-out, still-first, still-next, still-end}
-use Rattle.stream_rules.specs.Lines.{entryLines}
-use Rattle.stream.proofs.PlanLines.{entries-more, entries-none}
 use borrow.Author.Needs.{needs}
+use Rattle.lists.proofs.Front.{length-mapped}
+use Rattle.text_rules.proofs.Laid.{put-inside}
+use Rattle.stream_rules.specs.Lines.{entryLines}
+use Rattle.stream.proofs.Lengths.{Going, going-first, going-next, going-end, within-then}
+use Rattle.stream.proofs.PlanLines.{entries-more, entries-none}
 use Rattle.stream.proofs.entries.put_entries.Statement.{statement}
 use Rattle.stream.proofs.entries.put_entries.Tie as tie
 
 abbrev Inv-loop : tie.InvT-loop
 Inv-loop out₀ at n entries m next₀ i₀ out next i =
-    Still (entryLines 0 (take n entries)) next₀ out₀ (entryLines i (drop i (take n entries))) next out
+    Going (72 * i) (entryLines 0 (take n entries)) next₀ out₀ (entryLines i (drop i (take n entries))) next out
     × (i ≤ m)
-    × (next ≤ length out)
     × (length entries ≡ 128)
-    × (next ≤ at + 72 * i)
-    × (i ≤ 128)
 
 abbrev μ-loop : tie.MeasureT-loop
 μ-loop out₀ at n entries m next₀ i₀ out next i = m - i
 
-returns : tie.Need-returns Inv-loop μ-loop
-returns c = record { put = put-out _ (c .before .before .args .at) (c .before .before .args .out .now) (c .if1 .taken); short = omega arith }
-
-live-requires : tie.Need-live-requires Inv-loop μ-loop
-live-requires c κs = search needs
-
-loop-holds : tie.Need-loop-holds Inv-loop μ-loop
-loop-holds c = (still-first _ _ _, omega arith, omega arith, search (needs, length-mapped), omega arith, omega arith)
-
-mul-e : tie.Need-mul-e Inv-loop μ-loop
-mul-e c = search needs
-
-array-copy-out-e : tie.Need-array-copy-out-e Inv-loop μ-loop
-array-copy-out-e c = search needs
-
-cast-put-entry : tie.Need-cast-put-entry Inv-loop μ-loop
-cast-put-entry c = search needs
-
-put-entry-requires : tie.Need-put-entry-requires Inv-loop μ-loop
-put-entry-requires c κs = search needs
-
-add-i : tie.Need-add-i Inv-loop μ-loop
-add-i c = search needs
-
-loop-less : tie.Need-loop-less Inv-loop μ-loop
-loop-less c = search needs
-
-loop-again : tie.Need-loop-again Inv-loop μ-loop
-loop-again c =
+again : tie.Need-loop-again Inv-loop μ-loop
+again c =
     let l = c .before .before .before .before .before .before in
-    let a = l .before .before .before .before .args in
-    let p = c .before .before .put-entry .ensures in (
-      still-next (l .loop .inv .0)
-          (entries-more (a .n) (a .t3) (l .loop .i) _
-          (omega (arith, l .before .live .ensures .0, l .loop .inv .3, c .before .before .before .before .before .loop-test .taken)))
-          (p .put),
+    let live = l .before .before .before .before .before in
+    let a = live .before .before .args in
+    let test = c .before .before .before .before .before .loop-test .taken in (
+      going-next (l .loop .inv .0) 72 _ (entries-more (a .n) (a .t3) (l .loop .i) _ (omega (arith, live .live .ensures .0, l .loop .inv .2, test)))
+          (c .before .before .put-entry .ensures) (omega arith),
       omega arith,
-      put-inside (p .put),
-      l .loop .inv .3,
-      omega (arith, p .short, l .loop .inv .4),
-      omega (arith, l .before .live .ensures .1, c .before .before .before .before .before .loop-test .taken),
+      l .loop .inv .2,
     )
 
-same-length : tie.Need-same-length Inv-loop μ-loop
-same-length c = c .before .loop .inv .0 .same
-
-returns-2 : tie.Need-returns-2 Inv-loop μ-loop
-returns-2 c =
+all : tie.Need-returns Inv-loop μ-loop
+all c =
     let l = c .before in
-    let a = l .before .before .before .before .args in
-    record {
-      put =
-          still-end (l .loop .inv .0)
-          (entries-none (a .n) (a .t3) (l .loop .i) (omega (arith, l .before .live .ensures .0, l .loop .inv .3, c .loop-test .left))) (l .loop .inv .2);
-      short = omega (arith, l .loop .inv .4, l .loop .inv .5);
-    }
+    let live = l .before .before .before .before .before in
+    let a = live .before .before .args in
+    within-then (l .before .before .before .put-nothing .ensures)
+    (going-end (l .loop .inv .0) 9216 (entries-none (a .n) (a .t3) (l .loop .i) (omega (arith, live .live .ensures .0, l .loop .inv .2, c .loop-test .left)))
+    (omega (arith, live .live .ensures .1, l .loop .inv .1)))
 
 pub put-entries-spec : {M : Type 1} → statement M
 put-entries-spec =
@@ -86,15 +48,15 @@ put-entries-spec =
     (tie.spec
     Inv-loop
     μ-loop
-    returns
-    live-requires
-    loop-holds
-    mul-e
-    array-copy-out-e
-    cast-put-entry
-    put-entry-requires
-    add-i
-    loop-less
-    loop-again
-    same-length
-    returns-2)
+    (λ c κs. search needs)
+    (λ c κs. search needs)
+    (λ c. (going-first _ _ _ (search put-inside), omega arith, search (needs, length-mapped)))
+    (λ c. search needs)
+    (λ c. search needs)
+    (λ c. search needs)
+    (λ c κs. search needs)
+    (λ c. search needs)
+    (λ c. search needs)
+    again
+    (λ c. search needs)
+    all)

@@ -1,44 +1,13 @@
--- `put_entry` reckons the window from the start, and lays six numbers.
-use Rattle.stream.proofs.PlanLines.{entry-put}
+-- `put_entry` lays the numbers, and the line's end behind the last.
 use borrow.Author.Needs.{needs}
+use Rattle.stream.proofs.PlanLines.{entry-ended}
 use Rattle.stream.proofs.entries.put_entry.Statement.{statement}
 use Rattle.stream.proofs.entries.put_entry.Tie as tie
-
-of-requires : tie.Need-of-requires
-of-requires c κs = search needs
-
-cast-start : tie.Need-cast-start
-cast-start c = search needs
-
-add-from : tie.Need-add-from
-add-from c = search needs
-
-add-to : tie.Need-add-to
-add-to c = search needs
-
-cast-put-numbers : tie.Need-cast-put-numbers
-cast-put-numbers c = search needs
-
-put-numbers-requires : tie.Need-put-numbers-requires
-put-numbers-requires c κs = search needs
-
-same-length : tie.Need-same-length
-same-length c = search needs
-
-returns : tie.Need-returns
-returns c =
-    let a = c .before .before .before .before .before .before .before .before .before .before .before .args in
-    entry-put (a .k) (a .e) (c .before .before .before .before .before .before .before .before .of .ensures .0) (c .before .before .put-numbers .ensures)
 
 pub put-entry-spec : {M : Type 1} → statement M
 put-entry-spec =
     tie.close
     (tie.spec
-    of-requires
-    cast-start
-    add-from
-    add-to
-    cast-put-numbers
-    put-numbers-requires
-    same-length
-    returns)
+    (λ c κs. search needs)
+    (λ c. search needs)
+    (λ c. search entry-ended))

@@ -1,7 +1,7 @@
 -- `put_help` lays the words of the console.
 use borrow.Author.Needs.{needs}
-use Rattle.console_lines.proofs.help.put_help.Statement.{statement}
-use Rattle.console_lines.proofs.help.put_help.Tie as tie
+use Rattle.console_plain.proofs.help.put_help.Statement.{statement}
+use Rattle.console_plain.proofs.help.put_help.Tie as tie
 
 slice-aggregate-put-bytes : tie.Need-slice-aggregate-put-bytes
 slice-aggregate-put-bytes c = search needs

@@ -14,7 +14,13 @@ use Rattle.parity_rules.specs.Overlays.{uplinkOverlay}
 use Rattle.frames_rules.specs.Answers.{Building}
 use Rattle.frames_rules.specs.Building.{allCalling}
 use Rattle.frames_rules.specs.Codes.{codeOf}
-use Rattle.console_rules.specs.Texts.{numberAt, bytesAt, doneText, refusalText}
+use Rattle.console_rules.specs.Texts.{numberAt, bytesAt, doneText, refusalText, Brief}
+use Rattle.console_rules.specs.declared.names.PlainLine.{PlainLine}
+use Rattle.console_rules.specs.PlainLines.{plainText}
+use Rattle.console_rules.specs.Help.{helpText}
+use Rattle.console_rules.proofs.Short.{remainder-fits, overlay-fits, correct-fits, build-fits, all-call-frame-fits, up-fits, down-fits}
+use Rattle.console_rules.proofs.Short.{code-fits, feet-fits, explain-fits}
+use native.Mathlib.Omega.{arith}
 use Rattle.console_rules.specs.Parity.{reckonedText, remainderText, overlayText, fixedText, correctText}
 use Rattle.console_rules.specs.Building.{builtText, selectiveText, buildText, allCallText}
 use Rattle.console_rules.specs.Frames.{interrogationText, replyText, upText, downText, whoseText, codeText}
@@ -95,3 +101,14 @@ module _ (n : ℕ) {l m : List ℕ} {q : ℕ} where
   meaning-line {w} k h p =
       let e : take (w .to - w .from) (drop (w .from) (joined meanings)) ≡ getD meanings n [] = k .text ∙ ap (λ (t : List (List ℕ)). getD t n []) lines-are in
       rw (counted, lt-ltb n 19 h) (rw e at p)
+
+-- ---- `search (plain-line, fitting)` finds that a line's text was laid, and fits
+pub plain-line : (ws : List (List ℕ)) {c d : PlainLine} {l m : List ℕ} {q : ℕ} → c ≡ d → Put (plainText d ws) 0 l m q → length (plainText d ws) ≤ 512
+    → Brief (plainText c ws) l m q
+plain-line ws e p h = rw e (record { text-put = p; short = h })
+
+pub help-fits : length helpText ≤ 512
+help-fits = omega arith
+
+pub ruleset fitting =
+    (remainder-fits, overlay-fits, correct-fits, build-fits, all-call-frame-fits, up-fits, down-fits, code-fits, feet-fits, explain-fits, help-fits)

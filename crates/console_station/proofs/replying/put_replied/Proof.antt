@@ -1,0 +1,28 @@
+-- `put_replied` lays the three values, or the refusal.
+use native.Mathlib.Omega.{arith}
+use mir.Syntax.{w32}
+use mir.Val.{SFits}
+use mir.ValLaws.{toZ-ofZ}
+use Rattle.console_station.proofs.Said.{reply-refused, reply-taken}
+use borrow.Author.Needs.{needs}
+use Rattle.console_station.proofs.replying.put_replied.Statement.{statement}
+use Rattle.console_station.proofs.replying.put_replied.Tie as tie
+
+taken : tie.Need-returns-2
+taken c =
+    let start : tie.Start = search in
+    let r = start .args .r in
+    let fits : SFits w32 (r .delay) = search needs in
+    let p = c .before .before .put-values .ensures in
+    reply-taken r _ (search) (search needs) (omega arith) fits (rw (toZ-ofZ w32 (r .delay) fits) at p)
+
+pub put-replied-spec : {M : Type 1} → statement M
+put-replied-spec =
+    tie.close
+    (tie.spec
+    (λ c κs. search needs)
+    (λ c. search needs)
+    (λ c. search reply-refused)
+    (λ c κs. search needs)
+    (λ c. search needs)
+    taken)
