@@ -54,9 +54,9 @@ words-read = (refl, refl, refl, refl, refl, refl)
 
 -- how a line is read, for every claim below: its words, its row, the reasons not to read it, its numbers and bytes
 unfoldable pub Reading : Type 0
-unfolding lineTold wordsTold commandTold rowTold judgedTold callTold plainText flightSaid stationSpoken comment rowOf rowIn table word wordsOf parts full grown blank sameAs theNumber theBytes
-    numberOf hexNumber hexAfter numberIn allDigits valueAfter bytesIn isHex allHex hexValue pairs isDigit between isBytes isNumber areBytes says faultBehind
-    fault wordReason reasonOf isRead unmade
+unfolding lineTold wordsTold commandTold rowTold judgedTold callTold plainText flightSaid stationSpoken comment rowOf rowIn table word wordsOf parts
+    full grown blank sameAs theNumber theBytes numberOf hexNumber hexAfter numberIn allDigits valueAfter bytesIn isHex allHex hexValue pairs isDigit
+    between isBytes isNumber areBytes says faultBehind fault wordReason reasonOf isRead unmade
 Reading = Unit {0}
 
 -- ---- parity: published frames, the starred corrections and overlays of document 01, lengths and numbers out of their ranges

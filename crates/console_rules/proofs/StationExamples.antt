@@ -110,11 +110,12 @@ beside =
     ∷ []
 
 station-runs-printed : Printed night × Printed later × Printed refusals × Printed beside
-unfolding Reading checked consoleText linesText linesOf newline answerText doneText refusalText decimal decimalIn signedDecimal hexIn hexOf hexDigit every
-    countOf indexOf filter over total bits xorBits shiftIn divide remainderOf syndrome sizeOf subsets xorOf matching flipped sentFor replyFor apart clear
-    clearOf fits first place sharesFit setupNumber plans.tried plans.pass plans.alone plans.turns plans.plan headOf drawn selectiveRanged
+unfolding Reading checked consoleText linesText linesOf newline answerText doneText refusalText decimal decimalIn signedDecimal hexIn hexOf hexDigit
+    every countOf indexOf filter over total bits xorBits shiftIn divide remainderOf syndrome sizeOf subsets xorOf matching flipped sentFor replyFor
+    apart clear clearOf fits first place sharesFit setupNumber plans.tried plans.pass plans.alone plans.turns plans.plan headOf drawn selectiveRanged
     state.beforeSetup state.emptied setUp targetRanged requestRanged unitFull newTarget without removed moved requested reported asked boardFor nextPlan
-    expected valueIn startOf inWindow targetsHeard afterReply settled replied line entryLine entryLines valueWord ageWord reportLine outcomeSpoken allFit
-    whereHeld numbersFrom setupSpoken targetSpoken moveSpoken removeSpoken requestSpoken plannedSpoken planSpoken repliedSpoken replySpoken reportText
-    reportSpoken newborn makeRanged making madeSaid modelSaid holderText timerText lockText locksText stateText stateSaid reasonText targetLine targetLines targetsText targetsSpoken statusWord statusLine statusLines entriesText entriesSpoken
+    expected valueIn startOf inWindow targetsHeard afterReply settled replied line entryLine entryLines valueWord ageWord reportLine outcomeSpoken
+    allFit whereHeld numbersFrom setupSpoken targetSpoken moveSpoken removeSpoken requestSpoken plannedSpoken planSpoken repliedSpoken replySpoken
+    reportText reportSpoken newborn makeRanged making madeSaid modelSaid holderText timerText lockText locksText stateText stateSaid reasonText
+    targetLine targetLines targetsText targetsSpoken statusWord statusLine statusLines entriesText entriesSpoken
 station-runs-printed = (refl, refl, refl, refl)
