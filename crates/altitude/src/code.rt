@@ -88,7 +88,7 @@ fn pattern(ac: u32) -> u32
 }
 
 // The hundreds within five hundreds: they run back where the five hundreds are odd.
-fn hundreds_in(n: u32, c: u32) -> u32
+pub(crate) fn hundreds_in(n: u32, c: u32) -> u32
     requires { ⌜ c ≤ 5 ⌝ }
     ensures { λ r. ⌜ (r ≡ hundreds n c) × (r ≤ 6) ⌝ }
 {

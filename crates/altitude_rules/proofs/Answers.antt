@@ -4,9 +4,15 @@ use mathlib.Core.Path.{_≡_, refl, sym, ap, _∙_}
 use mathlib.Core.Bool.{Bool, true, false}
 use lib.Dec.{eqb, ltb}
 use lib.ListN.{length, getD}
-use lib.IntN.{pos}
+use lib.IntN.{ℤ, pos}
 use Rattle.lists.specs.Lists.{pick}
 use Rattle.lists.specs.Checks.{checked, given}
+use Rattle.lists.specs.Answers as lists
+use Rattle.lists.specs.Answers.{refusedBy}
+use Rattle.lists.proofs.Checks.{view}
+use Rattle.altitude_rules.specs.WayBack.{wayBackChecks, wayBack, writtenSaid}
+use Rattle.altitude_rules.specs.declared.code.Written.{Written}
+use Rattle.altitude_rules.specs.declared.code.Written.the-variants.{Code, NoCode}
 use borrow.Author.Tests.{lt-ltb, le-ltb, eq-eqb, ne-eqb}
 use Rattle.altitude_rules.specs.Code.{M, Q, group, feetBy25, feetBy100, Form, allZero, metric, by25, by100, illegal, formOf, readAs, altitude}
 use Rattle.altitude_rules.specs.Code.{altitudeNumber, Answer, altitudeSaid, altitudeTold, isIllegal, codeChecks}
@@ -69,6 +75,24 @@ altitude-is ac x e = altitude-one x (altitude ac) e
 pub altitude-told : (ac : ℕ) (x : Altitude) → x ≡ altitude ac → altitudeSaid x ≡ altitudeTold ac
 unfolding altitudeTold
 altitude-told ac x e = ap altitudeSaid e
+
+-- ---- so of the way back
+
+writtenBy : lists.Answer → Written
+writtenBy a = pick (eqb (a .number) 0) (Code (getD (a .values) 0 0)) NoCode
+
+written-back : (w : Written) → writtenBy (writtenSaid w) ≡ w
+unfolding writtenBy
+written-back (Code ac) = refl
+written-back NoCode = refl
+
+pub written-one : (v w : Written) → writtenSaid v ≡ writtenSaid w → v ≡ w
+written-one v w e = sym (written-back v) ∙ ap writtenBy e ∙ written-back w
+
+-- 19 exactly when the table says
+pub number-of-feet : (feet : ℤ) → wayBack feet .number ≡ given (wayBackChecks feet)
+unfolding wayBack
+number-of-feet feet = view (λ (a : lists.Answer). a .number) (wayBackChecks feet) refusedBy _
 
 -- ---- 2 and 18 exactly when the table says
 number-by : (b : Bool) (f : Form) (ac : ℕ) → altitudeNumber (pick b Range (readAs f ac)) ≡ pick b 2 (pick (isIllegal f) 18 0)

@@ -10,7 +10,9 @@ use lib.Dec.{eqb}
 use lib.ListN.{getD}
 use Rattle.lists.specs.Lists.{pick, every, spelled}
 use Rattle.lists.proofs.Every.{equal-below, less-below}
-use Rattle.altitude_rules.specs.Code.{C1, A1, C2, A2, C4, A4, B1, B2, D2, B4, D4, grayValue, eleven, eight, fiveHundreds, patternOf, group, hundreds}
+use Rattle.altitude_rules.specs.WayBack.{codeBy25, grayCode, groupBits, codeOfBits, codeBy100}
+use Rattle.altitude_rules.specs.Code.{bitAt, C1, A1, C2, A2, C4, A4, B1, B2, D2, B4, D4}
+use Rattle.altitude_rules.specs.Code.{grayValue, eleven, eight, fiveHundreds, patternOf, group, hundreds}
 
 -- the code's way back from Gray code, tried on all 256 numbers of eight bits
 abbrev pub folded : ℕ → ℕ
@@ -100,3 +102,56 @@ by-parity false c h = omega arith
 pub hundreds-le : (ac : ℕ) → hundreds (fiveHundreds ac) (group ac) ≤ 6
 unfolding hundreds
 hundreds-le ac = by-parity (eqb (fiveHundreds ac % 2) 1) (group ac) (group-small ac)
+
+-- ---- the way back
+
+-- a pattern is asked for by a number from 1 to 5, turned or not
+pub turned-le : (n c : ℕ) → 0 < c → c ≤ 5 → hundreds n c ≤ 5
+unfolding hundreds
+turned-le n c l h = go (eqb (n % 2) 1)
+  where
+    go : (t : Bool) → pick t (6 - c) c ≤ 5
+    go true = omega arith
+    go false = omega arith
+
+-- tried on all 2,048 numbers of eleven bits
+pub code-25-is : (n : ℕ) → n < 2048 → n / 2 ^ 5 * 128 + n / 2 ^ 4 % 2 * 32 + 16 + n % 16 ≡ codeBy25 n
+unfolding every codeBy25
+code-25-is n h = equal-below (λ x. x / 2 ^ 5 * 128 + x / 2 ^ 4 % 2 * 32 + 16 + x % 16) codeBy25 2048 refl n h
+
+-- eight bits at their places, over any bits
+module _ (d2 d4 a1 a2 a4 b1 b2 b4 : ℕ) where
+  eight-at : a1 * 2048 + a2 * 512 + a4 * 128 + (b1 * 32 + b2 * 8 + b4 * 2) + d2 * 4 + d4
+      ≡ spelled 0 (0 ∷ a1 ∷ 0 ∷ a2 ∷ 0 ∷ a4 ∷ 0 ∷ b1 ∷ 0 ∷ b2 ∷ d2 ∷ b4 ∷ d4 ∷ [])
+  eight-at = omega arith
+
+  eight-at-lt : d2 < 2 → d4 < 2 → a1 < 2 → a2 < 2 → a4 < 2 → b1 < 2 → b2 < 2 → b4 < 2
+      → a1 * 2048 + a2 * 512 + a4 * 128 + (b1 * 32 + b2 * 8 + b4 * 2) + d2 * 4 + d4 < 8192
+  eight-at-lt h1 h2 h3 h4 h5 h6 h7 h8 = omega arith
+
+module _ (g : ℕ) where
+  abbrev pub eightAt : ℕ
+  eightAt =
+      bitAt 5 g * 2048 + bitAt 4 g * 512 + bitAt 3 g * 128 + (bitAt 2 g * 32 + bitAt 1 g * 8 + g % 2 * 2) + bitAt 7 g * 4 + bitAt 6 g
+
+  pub eight-placed : eightAt ≡ codeOfBits g 0
+  unfolding codeOfBits
+  eight-placed =
+      let last : bitAt 0 g ≡ g % 2 = omega arith in
+      rw last (eight-at (bitAt 7 g) (bitAt 6 g) (bitAt 5 g) (bitAt 4 g) (bitAt 3 g) (bitAt 2 g) (bitAt 1 g) (g % 2))
+
+  pub eight-placed-lt : eightAt < 8192
+  eight-placed-lt =
+      eight-at-lt (bitAt 7 g) (bitAt 6 g) (bitAt 5 g) (bitAt 4 g) (bitAt 3 g) (bitAt 2 g) (bitAt 1 g) (g % 2)
+      (omega arith) (omega arith) (omega arith) (omega arith) (omega arith) (omega arith) (omega arith) (omega arith)
+
+-- the bits of both parts, each at its place
+both-parts : (g p : ℕ) → codeOfBits g 0 + codeOfBits 0 p ≡ codeOfBits g p
+unfolding codeOfBits
+both-parts g p = omega arith
+
+-- the parts of the 100 ft code, as they are reckoned one after the other
+pub hundred-is : (k h : ℕ) {e t : ℕ} → h ≡ hundreds (k / 5) (k % 5 + 1) → e ≡ codeOfBits (grayCode (k / 5)) 0 → t ≡ codeOfBits 0 (groupBits h)
+    → e + t ≡ codeBy100 k
+unfolding codeBy100
+hundred-is k h hs es ts = rw (es, ts, hs) (both-parts (grayCode (k / 5)) (groupBits (hundreds (k / 5) (k % 5 + 1))))

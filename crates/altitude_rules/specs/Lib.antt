@@ -1,3 +1,4 @@
--- The definitions: the altitude code, and what is claimed of all codes.
+-- The definitions: the altitude code, the way back, and what is claimed of all codes.
 pub mod Code
+pub mod WayBack
 pub mod Claims

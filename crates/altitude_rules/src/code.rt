@@ -1,4 +1,4 @@
-// What the 13 bits of AC say of the altitude.
+// What the 13 bits of AC say of the altitude, and the way back.
 
 // What AC says, or why it is refused.
 pub enum Altitude {
@@ -11,4 +11,10 @@ pub enum Altitude {
     Range,
     // A pattern that the 100 ft code does not have.
     Illegal,
+}
+
+// The code of an altitude in feet, or that it has none.
+pub enum Written {
+    Code(u32),
+    NoCode,
 }

@@ -2,3 +2,4 @@
 mod code;
 
 pub use code::Altitude;
+pub use code::Written;

@@ -10,23 +10,37 @@ use lib.ListN.{length}
 use Rattle.lists.specs.Lists.{pick}
 use borrow.Author.Tests.{eq-eqb, ne-eqb, not-true, not-false}
 use Rattle.console_rules.specs.declared.names.Row.{Row}
+use Rattle.console_rules.specs.declared.names.Sort.{Sort}
+use Rattle.console_rules.specs.declared.names.Sort.the-variants as sort
 use Rattle.console_rules.specs.declared.names.Reason.{Reason}
 use Rattle.console_rules.specs.declared.names.Reason.the-variants.{Read, NoSuchLine, Wanted, NoAircraft, NoNumber, NoBytes}
 use Rattle.text_rules.specs.Put.{Put}
 use Rattle.text_rules.proofs.Laid.{put-none}
 use Rattle.console_rules.specs.Texts.{word, Brief}
 use Rattle.console_rules.proofs.Short.{wanted-fits, no-number-fits, no-bytes-fits}
-use Rattle.console_rules.specs.Reasons.{isBytes, says, faultBehind, fault, wordReason, reasonOf, reasonText}
+use Rattle.console_rules.specs.Reasons.{sortAt, says, faultBehind, fault, unfit, wordReason, reasonOf, reasonText}
 
--- ---- where bytes belong
+-- ---- `search sorting` tells what belongs at a word
 module _ (r : Row) (k : ℕ) where
-  pub first-bytes : k ≡ r .bytes → true ≡ isBytes r k
-  unfolding isBytes
+  pub first-bytes : k ≡ r .bytes → sort.Bytes ≡ sortAt r k
+  unfolding sortAt
   first-bytes h = rw (eq-eqb k (r .bytes) h)
 
-  pub more-bytes : (k ≡ r .bytes → ⊥) → eqb k (r .more) ≡ isBytes r k
-  unfolding isBytes
-  more-bytes h = rw (ne-eqb k (r .bytes) h)
+  module _ (h : k ≡ r .bytes → ⊥) where
+    pub more-bytes : k ≡ r .more → sort.Bytes ≡ sortAt r k
+    unfolding sortAt
+    more-bytes m = rw (ne-eqb k (r .bytes) h, eq-eqb k (r .more) m)
+
+    module _ (m : k ≡ r .more → ⊥) where
+      pub with-sign : k ≡ r .sign → sort.Integer ≡ sortAt r k
+      unfolding sortAt
+      with-sign e = rw (ne-eqb k (r .bytes) h, ne-eqb k (r .more) m, eq-eqb k (r .sign) e)
+
+      pub without-sign : (k ≡ r .sign → ⊥) → sort.Number ≡ sortAt r k
+      unfolding sortAt
+      without-sign e = rw (ne-eqb k (r .bytes) h, ne-eqb k (r .more) m, ne-eqb k (r .sign) e)
+
+pub ruleset sorting = (first-bytes, more-bytes, with-sign, without-sign)
 
 -- ---- the word at fault: what the words behind the k-th say is what all of them say
 abbrev pub Behind : Row → List (List ℕ) → ℕ → Type 0
@@ -41,12 +55,12 @@ module _ (r : Row) (ws : List (List ℕ)) (k : ℕ) (e : Behind r ws k) where
   unfolding faultBehind
   no-fault h = let z : r .words - k ≡ 0 = omega arith in rw z at e
 
-  module _ (h : k < r .words) {b v : Bool} (at : b ≡ isBytes r (k + 1)) (told : v ≡ says b (word (k + 1) ws)) where
+  module _ (h : k < r .words) {s : Sort} {v : Bool} (at : s ≡ sortAt r (k + 1)) (told : v ≡ says s (word (k + 1) ws)) where
     next : {t : Bool} → v ≡ t → fault r ws ≡ pick t (faultBehind r (r .words - (k + 1)) (k + 1) ws) (k + 1)
     unfolding faultBehind
     next f =
         let n : r .words - k ≡ suc (r .words - (k + 1)) = omega arith in
-        let w : says (isBytes r (suc k)) (word (suc k) ws) ≡ v = rw (← add-one k, ← at, ← told) in
+        let w : says (sortAt r (suc k)) (word (suc k) ws) ≡ v = rw (← add-one k, ← at, ← told) in
         sym e ∙ rw (n, w, f, add-one k)
 
     pub at-fault : not v ≡ true → k + 1 ≡ fault r ws
@@ -63,16 +77,9 @@ module _ (r : Row) (k : ℕ) where
   unfolding wordReason
   no-word h = rw (eq-eqb k 0 h)
 
-  module _ (h : k ≡ 0 → ⊥) {b : Bool} (at : b ≡ isBytes r k) where
-    pub bytes-word : b ≡ true → NoBytes k ≡ wordReason r k
-    unfolding wordReason
-    bytes-word e = rw (ne-eqb k 0 h, ← at, e)
-
-    pub number-word : b ≡ false → NoNumber k ≡ wordReason r k
-    unfolding wordReason
-    number-word e = rw (ne-eqb k 0 h, ← at, e)
-
-pub ruleset words = (no-word, bytes-word, number-word)
+  pub unfit-word : (k ≡ 0 → ⊥) → {s t : Sort} {why : Reason} → s ≡ sortAt r k → s ≡ t → why ≡ unfit t k → why ≡ wordReason r k
+  unfolding wordReason
+  unfit-word h at e w = rw (ne-eqb k 0 h, ← at, e) w
 
 module _ (r : Row) (made : Bool) (ws : List (List ℕ)) where
   pub no-line : not (r .known) ≡ true → NoSuchLine ≡ reasonOf r made ws

@@ -13,7 +13,7 @@ use console_rules::StationLine;
 fn is_name(word: &[u8], k: usize) -> bool
     ensures { λ r. ⌜ r ≡ sameAs (now (word .entry)) (rowAt k .name) ⌝ }
 {
-    let names: &[u8] = b"remainder overlay correct build allcall up down code feet \
+    let names: &[u8] = b"remainder overlay correct build allcall up down code feet ac \
         model queue send state setup target remove move request plan reply report \
         targets entries explain quit help";
     let w = text::nth_word(names, k);
@@ -23,7 +23,7 @@ fn is_name(word: &[u8], k: usize) -> bool
 }
 
 // How many lines there are.
-const ROWS: usize = 26;
+const ROWS: usize = 27;
 
 // The calls in the order of their names.
 const COMMANDS: [Command; ROWS] = [
@@ -36,6 +36,7 @@ const COMMANDS: [Command; ROWS] = [
     Command::Plain(PlainLine::Down),
     Command::Plain(PlainLine::Code),
     Command::Plain(PlainLine::Feet),
+    Command::Plain(PlainLine::Ac),
     Command::Flight(FlightLine::Model),
     Command::Flight(FlightLine::Queue),
     Command::Flight(FlightLine::Send),
@@ -66,6 +67,7 @@ const WORDS: [u8; ROWS] = [
     1,
     4,
     1,
+    1,
     5,
     1,
     3,
@@ -95,6 +97,7 @@ const BYTES: [u8; ROWS] = [
     1,
     1,
     1,
+    0,
     0,
     0,
     1,
@@ -135,7 +138,39 @@ const MORE: [u8; ROWS] = [
     0,
     0,
     0,
+    0,
     4,
+    0,
+    0,
+    0,
+    0,
+    0,
+    0,
+];
+
+// Which of them may have a minus sign; 0 for none.
+const SIGN: [u8; ROWS] = [
+    0,
+    0,
+    0,
+    0,
+    0,
+    0,
+    0,
+    0,
+    0,
+    1,
+    0,
+    0,
+    0,
+    0,
+    0,
+    0,
+    0,
+    0,
+    0,
+    0,
+    0,
     0,
     0,
     0,
@@ -146,6 +181,7 @@ const MORE: [u8; ROWS] = [
 
 // Which lines need an aircraft.
 const AIRCRAFT: [bool; ROWS] = [
+    false,
     false,
     false,
     false,
@@ -185,6 +221,7 @@ fn row_at(k: usize) -> Row
         words: WORDS[k],
         bytes: BYTES[k],
         more: MORE[k],
+        sign: SIGN[k],
         aircraft: AIRCRAFT[k],
     }
 }
@@ -199,6 +236,7 @@ fn no_row() -> Row
         words: 0,
         bytes: 0,
         more: 0,
+        sign: 0,
         aircraft: false,
     }
 }

@@ -5,18 +5,25 @@ ghost use mathlib.Core.List.{_++_};
 ghost use Rattle.text_rules.specs.Put.{Put, decimal};
 ghost use Rattle.text_rules.specs.Line.{wordsOf};
 ghost use Rattle.console_rules.specs.Texts.{Brief};
-ghost use Rattle.console_rules.specs.Reasons.{tooLong, isBytes, fault, wordReason, reasonOf, isRead, reasonText};
+ghost use Rattle.console_rules.specs.Reasons.{tooLong, sortAt, fault, wordReason, reasonOf, isRead, reasonText};
 use console_rules::Reason;
 use console_rules::Row;
+use console_rules::Sort;
 
-// Bytes belong at the k-th word.
-fn is_bytes(r: Row, k: u8) -> bool
-    ensures { λ b. ⌜ b ≡ isBytes r k ⌝ }
+// What belongs at the k-th word.
+fn sort_at(r: Row, k: u8) -> Sort
+    ensures { λ s. ⌜ s ≡ sortAt r k ⌝ }
 {
     if k == r.bytes {
-        return true;
+        return Sort::Bytes;
     }
-    k == r.more
+    if k == r.more {
+        return Sort::Bytes;
+    }
+    if k == r.sign {
+        return Sort::Integer;
+    }
+    Sort::Number
 }
 
 // The first word that does not say what belongs there, counted from 1 behind the name; 0 where all do.
@@ -26,7 +33,7 @@ fn find_fault(line: &[u8], r: Row) -> u8
     let mut k: u8 = 0;
     while k < r.words {
         k += 1;
-        if !console_plain::says_at(line, k as usize, is_bytes(r, k)) {
+        if !console_plain::says_at(line, k as usize, sort_at(r, k)) {
             return k;
         }
     }
@@ -40,10 +47,11 @@ fn word_reason(r: Row, k: u8) -> Reason
     if k == 0 {
         return Reason::Read;
     }
-    if is_bytes(r, k) {
-        return Reason::NoBytes(k);
+    match sort_at(r, k) {
+        Sort::Number => Reason::NoNumber(k),
+        Sort::Integer => Reason::NoNumber(k),
+        Sort::Bytes => Reason::NoBytes(k),
     }
-    Reason::NoNumber(k)
 }
 
 // An aircraft is needed, and there is none.

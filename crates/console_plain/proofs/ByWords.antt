@@ -2,6 +2,7 @@
 use Prim.Native.Nat.{ℕ, _-_, _≤_, _<_}
 use mathlib.Core.Path.{_≡_, refl, ap, _∙_}
 use mathlib.Core.List.{List, [], _∷_, _++_}
+use lib.IntN.{ℤ}
 use lib.ListN.{length, getD, take, drop, replicate}
 use borrow.Author.Tests.{lt-ltb, le-ltb}
 use Rattle.lists.specs.Answers.{Answer}
@@ -9,23 +10,26 @@ use Rattle.text_rules.specs.declared.answer.Span.{Span}
 use Rattle.text_rules.specs.Line.{newline, grown, parts, linesOf, within, NthLine}
 use Rattle.text_rules.specs.Put.{Put}
 use Rattle.altitude_rules.specs.Code.{altitude}
+use Rattle.altitude_rules.specs.WayBack.{wayBack, writtenNumber, writtenSaid}
+use Rattle.altitude_rules.specs.declared.code.Written.{Written}
+use Rattle.altitude_rules.specs.declared.code.Written.the-variants.{NoCode}
 use Rattle.parity_rules.specs.Division.{remainderAnswer}
 use Rattle.parity_rules.specs.Overlays.{uplinkOverlay}
 use Rattle.frames_rules.specs.Answers.{Building}
 use Rattle.frames_rules.specs.Building.{allCalling}
 use Rattle.frames_rules.specs.Codes.{codeOf}
-use Rattle.console_rules.specs.Texts.{numberAt, bytesAt, doneText, refusalText, Brief}
+use Rattle.console_rules.specs.Texts.{numberAt, integerAt, bytesAt, doneText, refusalText, answerText, Brief}
 use Rattle.console_rules.specs.declared.names.PlainLine.{PlainLine}
 use Rattle.console_rules.specs.PlainLines.{plainText}
 use Rattle.console_rules.specs.Help.{helpText}
 use Rattle.console_rules.proofs.Short.{remainder-fits, overlay-fits, correct-fits, build-fits, all-call-frame-fits, up-fits, down-fits}
-use Rattle.console_rules.proofs.Short.{code-fits, feet-fits, explain-fits}
+use Rattle.console_rules.proofs.Short.{code-fits, feet-fits, ac-fits, explain-fits}
 use native.Mathlib.Omega.{arith}
 use Rattle.console_rules.specs.Parity.{reckonedText, remainderText, overlayText, fixedText, correctText}
 use Rattle.console_rules.specs.Building.{builtText, selectiveText, buildText, allCallText}
 use Rattle.console_rules.specs.Frames.{interrogationText, replyText, upText, downText, whoseText, codeText}
 use Rattle.console_rules.specs.FeetLines as feet-lines
-use Rattle.console_rules.specs.Feet.{feetText}
+use Rattle.console_rules.specs.Feet.{feetText, writtenText, acText}
 use Rattle.console_rules.specs.Explain.{meanings, meaningText, explainText}
 
 module _ (ws : List (List ℕ)) {l m : List ℕ} {q : ℕ} where
@@ -70,12 +74,22 @@ module _ (ws : List (List ℕ)) {l m : List ℕ} {q : ℕ} where
   unfolding feetText
   feet-line p a = rw a at p
 
+  pub ac-line : {a : Answer} {feet : ℤ} → Put (writtenText a) 0 l m q → a ≡ wayBack feet → feet ≡ integerAt 1 ws → Put (acText ws) 0 l m q
+  unfolding acText
+  ac-line p e b = rw (e, b) at p
+
   pub explain-line : {n : ℕ} → Put (meaningText n) 0 l m q → n ≡ numberAt 1 ws → Put (explainText ws) 0 l m q
   unfolding explainText
   explain-line p a = rw a at p
 
+-- the refusal of an altitude that has no code
+pub written-refused : {w : Written} {n : ℕ} {l m : List ℕ} {q : ℕ} → w ≡ NoCode → n ≡ writtenNumber w → Put (refusalText n) 0 l m q
+    → Put (writtenText (writtenSaid w)) 0 l m q
+unfolding writtenText answerText
+written-refused e h p = rw e (rw (h, e) at p)
+
 pub ruleset by-words =
-    (remainder-line, overlay-line, correct-line, build-line, all-call-line, up-line, down-line, code-line, feet-line, explain-line)
+    (remainder-line, overlay-line, correct-line, build-line, all-call-line, up-line, down-line, code-line, feet-line, ac-line, explain-line)
 
 -- ---- `search meaning` tells what a number means: a line of the text of all meanings, each ended by a newline
 abbrev pub joined : List (List ℕ) → List ℕ
@@ -86,21 +100,21 @@ lines-are : linesOf (joined meanings) ≡ meanings
 unfolding linesOf parts grown newline meanings
 lines-are = refl
 
-counted : length meanings ≡ 19
+counted : length meanings ≡ 20
 unfolding meanings
 counted = refl
 
 module _ (n : ℕ) {l m : List ℕ} {q : ℕ} where
-  pub meaning-none : 19 ≤ n → Put (refusalText 2) 0 l m q → Put (meaningText n) 0 l m q
+  pub meaning-none : 20 ≤ n → Put (refusalText 2) 0 l m q → Put (meaningText n) 0 l m q
   unfolding meaningText
-  meaning-none h p = rw (counted, le-ltb n 19 h) p
+  meaning-none h p = rw (counted, le-ltb n 20 h) p
 
-  pub meaning-line : {w : Span} → NthLine (joined meanings) n w → n < 19
+  pub meaning-line : {w : Span} → NthLine (joined meanings) n w → n < 20
       → Put (doneText (take (w .to - w .from) (drop (w .from) (joined meanings)))) 0 l m q → Put (meaningText n) 0 l m q
   unfolding meaningText within
   meaning-line {w} k h p =
       let e : take (w .to - w .from) (drop (w .from) (joined meanings)) ≡ getD meanings n [] = k .text ∙ ap (λ (t : List (List ℕ)). getD t n []) lines-are in
-      rw (counted, lt-ltb n 19 h) (rw e at p)
+      rw (counted, lt-ltb n 20 h) (rw e at p)
 
 -- ---- `search (plain-line, fitting)` finds that a line's text was laid, and fits
 pub plain-line : (ws : List (List ℕ)) {c d : PlainLine} {l m : List ℕ} {q : ℕ} → c ≡ d → Put (plainText d ws) 0 l m q → length (plainText d ws) ≤ 512
@@ -111,4 +125,4 @@ pub help-fits : length helpText ≤ 512
 help-fits = omega arith
 
 pub ruleset fitting =
-    (remainder-fits, overlay-fits, correct-fits, build-fits, all-call-frame-fits, up-fits, down-fits, code-fits, feet-fits, explain-fits, help-fits)
+    (remainder-fits, overlay-fits, correct-fits, build-fits, all-call-frame-fits, up-fits, down-fits, code-fits, feet-fits, ac-fits, explain-fits, help-fits)

@@ -2,26 +2,34 @@
 use Prim.Native.Nat.{ℕ, _+_, _-_, _≤_}
 use native.Mathlib.Omega.{arith}
 use mathlib.Core.Path.{_≡_, refl, sym, ap, _∙_}
-use mathlib.Core.Bool.{Bool, true, false, not}
+use mathlib.Core.Bool.{Bool, true, false}
 use mathlib.Core.List.{List}
 use mathlib.Core.Option.{Option, some, none}
+use lib.IntN.{ℤ, pos}
 use lib.Seq.{take-at}
 use lib.ListN.{length, take, drop, replicate, length-take, length-replicate, replicate-append-replicate}
-use borrow.Author.Tests.{not-true, not-false}
+use mir.Syntax.{w32}
+use mir.Val.{SFits, toZ, ofZ}
+use mir.ValLaws.{toZ-ofZ}
 use Rattle.text_rules.specs.Line.{wordsOf, within, NthWord}
 use Rattle.text_rules.specs.Put.{laid}
 use Rattle.text_rules.specs.Hex.{bytesIn, hexAnswer, filled, HexRead}
 use Rattle.text_rules.proofs.Laid.{take-laid, length-laid}
 use Rattle.console_rules.proofs.Short.{bytes-short}
 use Rattle.text_rules.specs.Bases.{numberOf}
+use Rattle.text_rules.specs.Signed.{integerOf}
 use Rattle.text_rules.proofs.HexRead.{hex-found, hex-not}
 use Rattle.text_rules.specs.declared.answer.Span.{Span}
 use Rattle.text_rules.specs.declared.answer.Hex.{Hex}
 use Rattle.text_rules.specs.declared.answer.Hex.the-variants.{Bytes, Not}
 use Rattle.text_rules.specs.declared.answer.Number.{Number}
 use Rattle.text_rules.specs.declared.answer.Number.the-variants as number
-use Rattle.console_rules.specs.Texts.{word, theNumber, theBytes, numberAt, bytesAt, BytesAt}
-use Rattle.console_rules.specs.Reasons.{isNumber, areBytes, says}
+use Rattle.text_rules.specs.declared.answer.Integer.{Integer}
+use Rattle.text_rules.specs.declared.answer.Integer.the-variants as integer
+use Rattle.console_rules.specs.declared.names.Sort.{Sort}
+use Rattle.console_rules.specs.declared.names.Sort.the-variants as sort
+use Rattle.console_rules.specs.Texts.{word, theNumber, theInteger, theBytes, numberAt, integerAt, bytesAt, BytesAt}
+use Rattle.console_rules.specs.Reasons.{isNumber, isInteger, areBytes, says}
 
 -- ---- read
 
@@ -54,6 +62,15 @@ module _ {line : List ℕ} {k : ℕ} {w : Span} (at : NthWord line k w) where
     unfolding theNumber
     no-number h = rw (← word-of at, ← e, h)
 
+  module _ {r : Integer} (e : r ≡ integerOf (take (w .to - w .from) (drop (w .from) line))) where
+    pub is-integer : (z : ℤ) → SFits w32 z → r ≡ integer.Is z → toZ w32 (ofZ w32 z) ≡ integerAt k (wordsOf line)
+    unfolding theInteger
+    is-integer z f h = toZ-ofZ w32 z f ∙ rw (← word-of at, ← e, h)
+
+    pub no-integer : r ≡ integer.Not → pos 0 ≡ integerAt k (wordsOf line)
+    unfolding theInteger
+    no-integer h = rw (← word-of at, ← e, h)
+
   module _ {l m : List ℕ} {a : Hex} (e : HexRead (take (w .to - w .from) (drop (w .from) line)) l m a) where
     word-read : HexRead (word k (wordsOf line)) l m a
     word-read = rw (word-of at) at e
@@ -67,33 +84,46 @@ module _ {line : List ℕ} {k : ℕ} {w : Span} (at : NthWord line k w) where
     unfolding theBytes laid
     no-bytes h = let f = hex-not (rw h at word-read) in record { answer = rw (f .0); buffer = rw (f .0) (f .1) }
 
-pub ruleset reads = (is-number, no-number, is-bytes, no-bytes)
+pub ruleset reads = (is-number, no-number, is-integer, no-integer, is-bytes, no-bytes)
 
 -- ---- `search told` tells whether a word says what belongs there
-module _ (w : List ℕ) (b : Bool) where
-  module _ (h : not b ≡ true) {r : Number} (e : r ≡ numberOf w) where
-    pub told-number : {n : ℕ} → r ≡ number.Is n → true ≡ says b w
+module _ (w : List ℕ) where
+  module _ {r : Number} (e : r ≡ numberOf w) where
+    pub told-number : {n : ℕ} → r ≡ number.Is n → true ≡ says sort.Number w
     unfolding says isNumber
-    told-number k = rw (not-true b h, ← e, k)
+    told-number k = rw (← e, k)
 
-    pub told-none : r ≡ number.Not → false ≡ says b w
+    pub told-none : r ≡ number.Not → false ≡ says sort.Number w
     unfolding says isNumber
-    told-none k = rw (not-true b h, ← e, k)
+    told-none k = rw (← e, k)
 
-  module _ (h : not b ≡ false) {l m : List ℕ} {a : Hex} (e : HexRead w l m a) where
-    pub told-bytes : {n : ℕ} → a ≡ Bytes n → length l ≡ 32 → true ≡ says b w
+  module _ {r : Integer} (e : r ≡ integerOf w) where
+    pub told-integer : {z : ℤ} → r ≡ integer.Is z → true ≡ says sort.Integer w
+    unfolding says isInteger
+    told-integer k = rw (← e, k)
+
+    pub told-no-integer : r ≡ integer.Not → false ≡ says sort.Integer w
+    unfolding says isInteger
+    told-no-integer k = rw (← e, k)
+
+  module _ {l m : List ℕ} {a : Hex} (e : HexRead w l m a) where
+    pub told-bytes : {n : ℕ} → a ≡ Bytes n → length l ≡ 32 → true ≡ says sort.Bytes w
     unfolding says areBytes
-    told-bytes k z = rw (not-false b h, hex-found z (rw k at e) .0)
+    told-bytes k z = rw (hex-found z (rw k at e) .0)
 
-    pub told-other : a ≡ Not → false ≡ says b w
+    pub told-other : a ≡ Not → false ≡ says sort.Bytes w
     unfolding says areBytes
-    told-other k = rw (not-false b h, hex-not (rw k at e) .0)
+    told-other k = rw (hex-not (rw k at e) .0)
 
-pub ruleset told = (told-number, told-none, told-bytes, told-other)
+pub ruleset told = (told-number, told-none, told-integer, told-no-integer, told-bytes, told-other)
 
-pub same-says : (b : Bool) {line : List ℕ} {k : ℕ} {w : Span} {r : Bool} → NthWord line k w → r ≡ says b (take (w .to - w .from) (drop (w .from) line))
-    → r ≡ says b (word k (wordsOf line))
-same-says b at e = rw (word-of at) at e
+-- by the sort
+pub sort-says : (w : List ℕ) {s t : Sort} {r : Bool} → s ≡ t → r ≡ says t w → r ≡ says s w
+sort-says w e h = rw e h
+
+pub same-says : (s : Sort) {line : List ℕ} {k : ℕ} {w : Span} {r : Bool} → NthWord line k w → r ≡ says s (take (w .to - w .from) (drop (w .from) line))
+    → r ≡ says s (word k (wordsOf line))
+same-says s at e = rw (word-of at) at e
 
 -- ---- `search lent` finds what lending the bytes of a word asks, and as many zeros
 front-zeros : (n : ℕ) → n ≤ 32 → take n (replicate {A = ℕ} 32 0) ≡ replicate n 0

@@ -6,7 +6,7 @@ use crate::answers::put_refusal;
 use crate::words::number_at;
 
 // How many numbers there are.
-const NUMBERS: u32 = 19;
+const NUMBERS: u32 = 20;
 
 // 0 and what the number of an answer means, a line of the text for each, or 2 for a number that means nothing.
 fn put_meaning(out: &mut [u8], n: u32) -> usize
@@ -33,7 +33,8 @@ fn put_meaning(out: &mut [u8], n: u32) -> usize
         a model time before its last time\n\
         an unknown kind of record; the run ends\n\
         a record cut by the end of the stream; the run ends\n\
-        an altitude pattern that the 100 ft code does not have\n";
+        an altitude pattern that the 100 ft code does not have\n\
+        an altitude that has no code\n";
     let w = text::nth_line(meanings, n as usize);
     let from = w.from;
     let to = w.to;

@@ -7,6 +7,7 @@ use crate::building::put_build;
 use crate::code::put_code;
 use crate::correction::put_correct;
 use crate::explaining::put_explain;
+use crate::feet::put_ac;
 use crate::feet::put_feet;
 use crate::help::put_help;
 use crate::reading::put_down;
@@ -29,6 +30,7 @@ pub fn put_plain(l: PlainLine, line: &[u8], out: &mut [u8]) -> usize
         PlainLine::Down => put_down(line, out),
         PlainLine::Code => put_code(line, out),
         PlainLine::Feet => put_feet(line, out),
+        PlainLine::Ac => put_ac(line, out),
         PlainLine::Explain => put_explain(line, out),
         PlainLine::Help => put_help(out),
     }

@@ -1,9 +1,12 @@
-// The words of a line where a number or bytes belong.
+// The words of a line where a number, one with its sign, or bytes belong.
 ghost use mathlib.Core.Path.{_≡_};
 ghost use Rattle.text_rules.specs.Line.{wordsOf};
-ghost use Rattle.console_rules.specs.Texts.{word, numberAt, BytesAt};
+ghost use Rattle.console_rules.specs.Texts.{word, numberAt, integerAt, BytesAt};
 ghost use Rattle.console_rules.specs.Reasons.{says};
+ghost use Rattle.console_rules.specs.declared.names.Sort.the-variants as sort;
+use console_rules::Sort;
 use text_rules::Hex;
+use text_rules::Integer;
 use text_rules::Number;
 
 // The number that the k-th word says; 0 where it says none.
@@ -16,6 +19,19 @@ pub fn number_at(line: &[u8], k: usize) -> u32
     match text::number_of(&line[from..to]) {
         Number::Is(n) => n,
         Number::Not => 0,
+    }
+}
+
+// The number with its sign that the k-th word says; 0 where it says none.
+pub fn integer_at(line: &[u8], k: usize) -> i32
+    ensures { λ r. ⌜ r ≡ integerAt k (wordsOf (now (line .entry))) ⌝ }
+{
+    let w = text::nth_word(line, k);
+    let from = w.from;
+    let to = w.to;
+    match text::integer_of(&line[from..to]) {
+        Integer::Is(z) => z,
+        Integer::Not => 0,
     }
 }
 
@@ -32,16 +48,30 @@ pub fn bytes_at(line: &[u8], k: usize, out: &mut [u8; 32]) -> usize
     }
 }
 
-// The word says bytes, where they belong, or else a number.
-fn word_says(bytes: bool, word: &[u8]) -> bool
-    ensures { λ r. ⌜ r ≡ says bytes (now (word .entry)) ⌝ }
+// The word says a number.
+fn is_number(word: &[u8]) -> bool
+    ensures { λ r. ⌜ r ≡ says sort.Number (now (word .entry)) ⌝ }
 {
-    if !bytes {
-        return match text::number_of(word) {
-            Number::Is(_) => true,
-            Number::Not => false,
-        };
+    match text::number_of(word) {
+        Number::Is(_) => true,
+        Number::Not => false,
     }
+}
+
+// The word says a number that may have a minus sign.
+fn is_integer(word: &[u8]) -> bool
+    ensures { λ r. ⌜ r ≡ says sort.Integer (now (word .entry)) ⌝ }
+{
+    match text::integer_of(word) {
+        Integer::Is(_) => true,
+        Integer::Not => false,
+    }
+}
+
+// The word says bytes.
+fn are_bytes(word: &[u8]) -> bool
+    ensures { λ r. ⌜ r ≡ says sort.Bytes (now (word .entry)) ⌝ }
+{
     let mut out = [0u8; 32];
     match text::hex_bytes(word, &mut out) {
         Hex::Bytes(_) => true,
@@ -49,12 +79,23 @@ fn word_says(bytes: bool, word: &[u8]) -> bool
     }
 }
 
+// The word says what belongs there.
+fn word_says(s: Sort, word: &[u8]) -> bool
+    ensures { λ r. ⌜ r ≡ says s (now (word .entry)) ⌝ }
+{
+    match s {
+        Sort::Number => is_number(word),
+        Sort::Integer => is_integer(word),
+        Sort::Bytes => are_bytes(word),
+    }
+}
+
 // The k-th word says what belongs there.
-pub fn says_at(line: &[u8], k: usize, bytes: bool) -> bool
-    ensures { λ r. ⌜ r ≡ says bytes (word k (wordsOf (now (line .entry)))) ⌝ }
+pub fn says_at(line: &[u8], k: usize, s: Sort) -> bool
+    ensures { λ r. ⌜ r ≡ says s (word k (wordsOf (now (line .entry)))) ⌝ }
 {
     let w = text::nth_word(line, k);
     let from = w.from;
     let to = w.to;
-    word_says(bytes, &line[from..to])
+    word_says(s, &line[from..to])
 }

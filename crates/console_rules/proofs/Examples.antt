@@ -6,7 +6,7 @@ use Rattle.lists.specs.Lists.{filter}
 use Rattle.lists.specs.Checks.{checked}
 use Rattle.text_rules.specs.Plain.{plain}
 use Rattle.text_rules.specs.Put.{decimalIn, decimal}
-use Rattle.text_rules.specs.Signed.{signedDecimal}
+use Rattle.text_rules.specs.Signed.{signedDecimal, upward, downward, integerOf}
 use Rattle.text_rules.specs.Line.{blank, grown, parts, full, wordsOf, sameAs}
 use Rattle.text_rules.specs.Number.{between, isDigit, allDigits, valueAfter, numberIn}
 use Rattle.text_rules.specs.Bases.{hexAfter, hexNumber, numberOf}
@@ -21,19 +21,20 @@ use Rattle.frames_rules.specs.Building.{selectiveRanged, allCallRanged, selecti
 use Rattle.frames_rules.specs.Reading.{readAs, selectiveRead, allCallRead, surveillanceRead, allCallReplyRead}
 use Rattle.frames_rules.specs.Codes.{whose, codeOf}
 use Rattle.altitude_rules.specs.Code.{eleven, feetBy25, grayValue, eight, fiveHundreds, group, hundreds, feetBy100, formOf, altitude}
+use Rattle.altitude_rules.specs.WayBack.{raised, reaches, codeBy25, codeOfBits, codeBy100, codeAt, wayBack}
 use Rattle.console_rules.specs.FeetLines as feet
-use Rattle.console_rules.specs.Texts.{word, theNumber, theBytes, numberAt, bytesAt, doneText, refusalText, answerText}
+use Rattle.console_rules.specs.Texts.{word, theNumber, theInteger, theBytes, numberAt, bytesAt, doneText, refusalText, answerText}
 use Rattle.console_rules.specs.Parity.{reckonedText, correctedText, remainderText, overlayText, fixedText, correctText}
 use Rattle.console_rules.specs.Building.{builtText, selectiveText, buildText, allCallText}
 use Rattle.console_rules.specs.Frames.{numberText, fieldsText, endText, numbersText, valuesText, readText, replyText, interrogationText, upText}
 use Rattle.console_rules.specs.Frames.{downText, codeWord, whoseText, codeText}
-use Rattle.console_rules.specs.Feet.{feetText}
+use Rattle.console_rules.specs.Feet.{feetText, writtenText, acText}
 use Rattle.console_rules.specs.Aircraft.{unmade, flightSaid}
 use Rattle.console_rules.specs.PlainLines.{plainText}
 use Rattle.console_rules.specs.Station.{stationSpoken}
 use Rattle.console_rules.specs.Explain.{meanings, meaningText, explainText}
 use Rattle.console_rules.specs.Names.{table, rowIn, rowOf}
-use Rattle.console_rules.specs.Reasons.{isBytes, isNumber, areBytes, says, faultBehind, fault, wordReason, reasonOf, isRead, reasonText}
+use Rattle.console_rules.specs.Reasons.{sortAt, isNumber, isInteger, areBytes, says, unfit, faultBehind, fault, wordReason, reasonOf, isRead, reasonText}
 use Rattle.console_rules.specs.Console.{callTold, judgedTold, rowTold, commandTold, comment, wordsTold, lineTold, lineText, begun}
 
 -- what a line prints before any model, both as quoted texts
@@ -56,7 +57,7 @@ words-read = (refl, refl, refl, refl, refl, refl)
 unfoldable pub Reading : Type 0
 unfolding lineTold wordsTold commandTold rowTold judgedTold callTold plainText flightSaid stationSpoken comment rowOf rowIn table word wordsOf parts
     full grown blank sameAs theNumber theBytes numberOf hexNumber hexAfter numberIn allDigits valueAfter bytesIn isHex allHex hexValue pairs isDigit
-    between isBytes isNumber areBytes says faultBehind fault wordReason reasonOf isRead unmade
+    between sortAt isNumber isInteger areBytes says unfit faultBehind fault wordReason reasonOf isRead unmade theInteger integerOf upward downward
 Reading = Unit {0}
 
 -- ---- parity: published frames, the starred corrections and overlays of document 01, lengths and numbers out of their ranges
@@ -122,15 +123,40 @@ unfolding Reading decimal decimalIn signedDecimal eleven feetBy25 grayValue eigh
     feet.answerText feetText
 feet-lines = (refl, refl, refl, refl, refl, refl, refl)
 
+-- ---- and back: each form at its edges, one foot off, the ends of the numbers that can be said, and what says none
+ac-lines :
+    Prints "ac 36000" "0 5912\n"
+    × Prints "ac -1000" "0 16\n"
+    × Prints "ac -1200" "0 256\n"
+    × Prints "ac 50175" "0 8127\n"
+    × Prints "ac 50200" "0 4643\n"
+    × Prints "ac 126700" "0 260\n"
+    × Prints "ac -0" "0 152\n"
+    × Prints "ac 0x8CA0" "0 5912\n"
+    × Prints "ac 36001" "19\n"
+    × Prints "ac -1300" "19\n"
+    × Prints "ac 126800" "19\n"
+    × Prints "ac -2147483648" "19\n"
+    × Prints "ac 0x7FFFFFFF" "19\n"
+    × Prints "ac -2147483649" "? word 1 is no number\n"
+    × Prints "ac 0x80000000" "? word 1 is no number\n"
+    × Prints "ac -0x10" "? word 1 is no number\n"
+    × Prints "ac -" "? word 1 is no number\n"
+    × Prints "feet -16" "? word 1 is no number\n"
+unfolding Reading checked answerText doneText refusalText decimal decimalIn hundreds raised reaches codeBy25 codeOfBits codeBy100 codeAt wayBack writtenText
+    acText reasonText
+ac-lines = (refl, refl, refl, refl, refl, refl, refl, refl, refl, refl, refl, refl, refl, refl, refl, refl, refl, refl)
+
 -- ---- the numbers of answers: each with its meaning, and one that has none
 explained :
     Prints "explain 0" "0 done\n"
     × Prints "explain 1" "0 a message not of 7 or 14 bytes, or a buffer not as long as the message\n"
     × Prints "explain 10" "0 the reply starts outside the entry's limits\n"
     × Prints "explain 0x12" "0 an altitude pattern that the 100 ft code does not have\n"
-    × Prints "explain 19" "2\n"
+    × Prints "explain 19" "0 an altitude that has no code\n"
+    × Prints "explain 20" "2\n"
 unfolding Reading doneText refusalText decimal decimalIn meanings meaningText explainText
-explained = (refl, refl, refl, refl, refl)
+explained = (refl, refl, refl, refl, refl, refl)
 
 -- ---- why a line is not read: each reason before the next, and of the words the first at fault; and lines that print nothing
 unread-lines :

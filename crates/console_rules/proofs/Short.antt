@@ -6,7 +6,9 @@ use mathlib.Core.Bool.{Bool, true, false}
 use mathlib.Core.List.{List, [], _∷_, _++_}
 use mathlib.Core.Option.{Option, some, none}
 use lib.Dec.{eqb, ltb}
+use lib.IntN.{ℤ}
 use lib.ListN.{length, getD, take, drop, replicate, length-append, length-take, length-replicate}
+use borrow.Author.Tests.{not-false}
 use Rattle.lists.specs.Lists.{pick, All}
 use Rattle.lists.specs.Checks.{check, checked}
 use Rattle.lists.specs.Answers.{Answer, done, refusal, refusedBy}
@@ -18,6 +20,8 @@ use Rattle.text_rules.proofs.Decimal.{decimal-length}
 use Rattle.text_rules.proofs.HexMade.{hex-length, hex-of-length}
 use Rattle.text_rules.proofs.HexRead.{bytes-fit}
 use Rattle.altitude_rules.specs.Code.{altitude}
+use Rattle.altitude_rules.specs.WayBack.{raised, wayBackChecks, wayBack}
+use Rattle.altitude_rules.proofs.WayBack.{fits}
 use Rattle.console_rules.specs.FeetLines as feet-lines
 use Rattle.console_rules.proofs.FeetRun.{answer-short}
 use Rattle.parity_rules.specs.Answers.{Correction}
@@ -37,7 +41,7 @@ use Rattle.console_rules.specs.Parity.{reckonedText, correctedText, rema
 use Rattle.console_rules.specs.Building.{builtText, selectiveText, buildText, allCallText}
 use Rattle.console_rules.specs.Frames.{numberText, numbersText, fieldsText, endText, valuesText, readText, interrogationText, replyText, upText}
 use Rattle.console_rules.specs.Frames.{downText, codeWord, whoseText, codeText}
-use Rattle.console_rules.specs.Feet.{feetText}
+use Rattle.console_rules.specs.Feet.{feetText, writtenText, acText}
 use Rattle.console_rules.specs.Explain.{meanings, meaningText, explainText}
 use Rattle.console_rules.specs.declared.names.Reason.the-variants.{Wanted, NoNumber, NoBytes}
 use Rattle.console_rules.specs.Reasons.{reasonText}
@@ -63,22 +67,22 @@ bytes-short k ws = bytes-by (word k ws) (bytesIn (word k ws)) refl
 
 -- ---- the text of an answer
 
-pub answer-fits : (n : ℕ) (v : List ℕ) → n ≤ 17 → length v ≤ 80 → length (answerText n v) ≤ brief
+pub answer-fits : (n : ℕ) (v : List ℕ) → n < 100 → length v ≤ 80 → length (answerText n v) ≤ brief
 unfolding answerText doneText refusalText
 answer-fits n v h k =
     either-fits (eqb n 0) _ _ (simp length-append (omega arith)) (simp length-append (omega (arith, decimal-length 1 n (omega arith))))
 
-reckoned-fits : (a : Answer) → a .number ≤ 17 → length (reckonedText a) ≤ brief
+reckoned-fits : (a : Answer) → a .number < 100 → length (reckonedText a) ≤ brief
 unfolding reckonedText
 reckoned-fits a h = answer-fits _ _ h (simp hex-length (omega arith))
 
-remainder-number : (msg : List ℕ) → remainderAnswer msg .number ≤ 17
+remainder-number : (msg : List ℕ) → remainderAnswer msg .number < 100
 unfolding All remainderAnswer
-remainder-number msg = whichever (λ (a : Answer). a .number ≤ 17) (remainderChecks msg) refusedBy _ (omega arith, tt) (λ p. omega arith)
+remainder-number msg = whichever (λ (a : Answer). a .number < 100) (remainderChecks msg) refusedBy _ (omega arith, tt) (λ p. omega arith)
 
-overlay-number : (address : ℕ) → uplinkOverlay address .number ≤ 17
+overlay-number : (address : ℕ) → uplinkOverlay address .number < 100
 unfolding All uplinkOverlay
-overlay-number address = whichever (λ (a : Answer). a .number ≤ 17) (uplinkOverlayChecks address) refusedBy _ (omega arith, tt) (λ p. omega arith)
+overlay-number address = whichever (λ (a : Answer). a .number < 100) (uplinkOverlayChecks address) refusedBy _ (omega arith, tt) (λ p. omega arith)
 
 corrected-fits : (o : Correction) (size : ℕ) → size ≤ 32 → Small size o → length (correctedText o) ≤ brief
 unfolding correctedText
@@ -130,7 +134,7 @@ five-fits f a b c r part hf ha hb hc =
     answer-fits 0 _ (omega arith)
     (simp length-append (omega (arith, number-fits f hf, number-fits a ha, number-fits b hb, number-fits c hc, hex-length 6 r)))
 
-refused-fits : (n : ℕ) (part : List ℕ) → n ≤ 17 → length (readText (refusal n) part) ≤ brief
+refused-fits : (n : ℕ) (part : List ℕ) → n < 100 → length (readText (refusal n) part) ≤ brief
 unfolding readText valuesText fieldsText
 refused-fits n part h = answer-fits n [] h (omega arith)
 
@@ -168,10 +172,10 @@ unfolding codeWord
 code-word-fits vs =
     either-fits (sameAs vs own) _ _ (omega arith) (either-fits (sameAs vs matchingII) _ _ (omega arith) (omega arith))
 
-code-number : (msg : List ℕ) (cl ic permit : ℕ) → codeOf msg cl ic permit .number ≤ 17
+code-number : (msg : List ℕ) (cl ic permit : ℕ) → codeOf msg cl ic permit .number < 100
 unfolding All codeOf
 code-number msg cl ic permit =
-    whichever (λ (a : Answer). a .number ≤ 17) (codeOfChecks msg cl ic permit) refusedBy _ (omega arith, (omega arith, (omega arith, tt))) (λ p. omega arith)
+    whichever (λ (a : Answer). a .number < 100) (codeOfChecks msg cl ic permit) refusedBy _ (omega arith, (omega arith, (omega arith, tt))) (λ p. omega arith)
 
 whose-fits : (msg : List ℕ) (cl ic permit : ℕ) → length (whoseText (codeOf msg cl ic permit)) ≤ brief
 unfolding whoseText
@@ -192,7 +196,7 @@ lent-short true = omega arith
 lent-short false = omega arith
 
 -- the frame, or a refusal that leaves the lent buffer
-held-fits : (n : ℕ) (l : List ℕ) → n ≤ 17 → length l ≤ 14 → length (builtText (notBuilt l (check n true))) ≤ brief
+held-fits : (n : ℕ) (l : List ℕ) → n < 100 → length l ≤ 14 → length (builtText (notBuilt l (check n true))) ≤ brief
 unfolding builtText
 held-fits n l h k = answer-fits _ _ h (omega (arith, hex-of-length l))
 
@@ -200,7 +204,7 @@ selective-fits : (uf pc rr di sd : ℕ) (ma : List ℕ) (address : ℕ) → leng
 unfolding All selectiveText building selective
 selective-fits uf pc rr di sd ma address =
     let l = replicate {A = ℕ} (lengthOf uf) 0 in
-    let by : (n : ℕ) → n ≤ 17 → length (builtText (notBuilt l (check n true))) ≤ brief = λ n h. held-fits n l h (lent-short (longFormat uf)) in
+    let by : (n : ℕ) → n < 100 → length (builtText (notBuilt l (check n true))) ≤ brief = λ n h. held-fits n l h (lent-short (longFormat uf)) in
     whichever (λ (o : Building). length (builtText o) ≤ brief) (buildingChecks uf pc rr di sd ma address l) (notBuilt l) _
     (by 2 (omega arith), (by 1 (omega arith), (by 2 (omega arith), tt))) (λ p. held-fits 0 _ (omega arith) (frame-short (lengthOf uf) _ _ _))
 
@@ -216,6 +220,16 @@ all-call-fits pr ic cl =
 altitude-fits : (ac : ℕ) → length (feet-lines.answerText (altitude ac)) ≤ brief
 altitude-fits ac = omega (arith, answer-short ac)
 
+-- the way back answers a code of 13 bits, or 19
+written-fits : (n v : ℕ) → n < 100 → v < 100000000 → length (answerText n (decimal v)) ≤ brief
+written-fits n v h k = answer-fits n (decimal v) h (omega (arith, decimal-length 7 v (omega arith)))
+
+way-back-fits : (feet : ℤ) → length (writtenText (wayBack feet)) ≤ brief
+unfolding All wayBack writtenText
+way-back-fits feet =
+    whichever (λ (a : Answer). length (writtenText a) ≤ brief) (wayBackChecks feet) refusedBy _ (written-fits 19 0 (omega arith) (omega arith), tt)
+    (λ p. written-fits 0 _ (omega arith) (omega (arith, fits (raised feet) (not-false _ (p .off 19)) .short)))
+
 -- ---- a meaning
 
 each-fits : (l : List (List ℕ)) (n : ℕ) → All (λ (t : List ℕ). length t ≤ 500) l → length (getD l n []) ≤ 500
@@ -228,7 +242,7 @@ meanings-fit : All (λ (t : List ℕ). length t ≤ 500) meanings
 unfolding All meanings
 meanings-fit = search arith depth 64
 
-refusal-short : (n : ℕ) → n ≤ 17 → length (refusalText n) ≤ brief
+refusal-short : (n : ℕ) → n < 100 → length (refusalText n) ≤ brief
 unfolding refusalText
 refusal-short n h = simp length-append (omega (arith, decimal-length 1 n (omega arith)))
 
@@ -296,6 +310,10 @@ module _ (ws : List (List ℕ)) where
   pub feet-fits : length (feetText ws) ≤ brief
   unfolding feetText
   feet-fits = altitude-fits _
+
+  pub ac-fits : length (acText ws) ≤ brief
+  unfolding acText
+  ac-fits = way-back-fits _
 
   pub explain-fits : length (explainText ws) ≤ brief
   unfolding explainText

@@ -19,7 +19,7 @@ use Rattle.console_rules.specs.Names.{Named, table, noRow, rowIn, rowOf,
 -- the names as the words of one text
 abbrev pub names : List ℕ
 names =
-    plain "remainder overlay correct build allcall up down code feet model queue send state setup target remove move request plan reply report "
+    plain "remainder overlay correct build allcall up down code feet ac model queue send state setup target remove move request plan reply report "
     ++ plain "targets entries explain quit help"
 
 pub names-are : (k : ℕ) → getD (wordsOf names) k [] ≡ rowAt k .name
@@ -35,7 +35,7 @@ unfolding table
 all-known = refl
 
 -- a row by its parts, each among those of all rows
-module _ (c : Command) (words bytes more : ℕ) (aircraft : Bool) where
+module _ (c : Command) (words bytes more sign : ℕ) (aircraft : Bool) where
   abbrev pub rowBy : List Named → ℕ → Row
   rowBy l k =
       record {
@@ -44,6 +44,7 @@ module _ (c : Command) (words bytes more : ℕ) (aircraft : Bool) where
         words = getD (map (λ (n : Named). n .row .words) l) k words;
         bytes = getD (map (λ (n : Named). n .row .bytes) l) k bytes;
         more = getD (map (λ (n : Named). n .row .more) l) k more;
+        sign = getD (map (λ (n : Named). n .row .sign) l) k sign;
         aircraft = getD (map (λ (n : Named). n .row .aircraft) l) k aircraft;
       }
 
@@ -83,10 +84,10 @@ abbrev pub wordsIn : List (List ℕ) → ℕ
 wordsIn [] = 0
 wordsIn (w ∷ ws) = pick (sameAs w (plain "..")) 6 1 + wordsIn ws
 
-pub help-named : map (λ (l : List ℕ). word 0 (wordsOf l)) (linesOf helpText) ≡ map (λ (n : Named). n .name) (take 25 table)
+pub help-named : map (λ (l : List ℕ). word 0 (wordsOf l)) (linesOf helpText) ≡ map (λ (n : Named). n .name) (take 26 table)
 unfolding word wordsOf linesOf parts full grown blank newline table
 help-named = refl
 
-pub help-counted : map (λ (l : List ℕ). wordsIn (wordsOf l)) (linesOf helpText) ≡ map (λ (n : Named). suc (n .row .words)) (take 25 table)
+pub help-counted : map (λ (l : List ℕ). wordsIn (wordsOf l)) (linesOf helpText) ≡ map (λ (n : Named). suc (n .row .words)) (take 26 table)
 unfolding wordsOf linesOf parts full grown blank newline table sameAs
 help-counted = refl

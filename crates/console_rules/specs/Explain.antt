@@ -28,7 +28,8 @@ meanings =
     plain "a model time before its last time" ∷
     plain "an unknown kind of record; the run ends" ∷
     plain "a record cut by the end of the stream; the run ends" ∷
-    plain "an altitude pattern that the 100 ft code does not have" ∷ []
+    plain "an altitude pattern that the 100 ft code does not have" ∷
+    plain "an altitude that has no code" ∷ []
 
 -- 0 and the meaning; 2 for a number that has none
 unfoldable pub meaningText : ℕ → List ℕ

@@ -8,7 +8,7 @@ abbrev pub parityHelp : List ℕ
 parityHelp = plain "remainder HEX\noverlay NUMBER\ncorrect HEX MARKS OVERLAY LIMIT\n"
 
 abbrev pub framesHelp : List ℕ
-framesHelp = plain "build UF PC RR DI SD MA ADDRESS\nallcall PR IC CL\nup HEX\ndown HEX\ncode HEX CL IC PERMIT\nfeet AC\n"
+framesHelp = plain "build UF PC RR DI SD MA ADDRESS\nallcall PR IC CL\nup HEX\ndown HEX\ncode HEX CL IC PERMIT\nfeet AC\nac FEET\n"
 
 abbrev pub aircraftHelp : List ℕ
 aircraftHelp = plain "model ADDRESS AC ID FS CA\nqueue HEX\nsend TIME DRAW HEX\nstate\n"

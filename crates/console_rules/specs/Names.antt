@@ -23,10 +23,10 @@ pub record Named : Type 0 where
   pub row : Row
 
 -- a line by its name and its call, with how many words stand behind the name, and the places of those that are bytes, counted from 1, 0 for none: all others
--- are numbers
+-- are numbers without a sign
 abbrev pub line : String → Command → ℕ → ℕ → ℕ → Named
 line name c words bytes more =
-    record { name = plain name; row = record { known = true; command = c; words = words; bytes = bytes; more = more; aircraft = false } }
+    record { name = plain name; row = record { known = true; command = c; words = words; bytes = bytes; more = more; sign = 0; aircraft = false } }
 
 -- one without a state, one of the station, and one of the aircraft, which needs an aircraft
 abbrev pub simple : String → PlainLine → ℕ → ℕ → ℕ → Named
@@ -37,7 +37,11 @@ service name l words bytes more = line name (Station l) words bytes more
 
 abbrev pub flight : String → FlightLine → ℕ → ℕ → Named
 flight name l words bytes =
-    record { name = plain name; row = record { known = true; command = Flight l; words = words; bytes = bytes; more = 0; aircraft = true } }
+    record { name = plain name; row = record { known = true; command = Flight l; words = words; bytes = bytes; more = 0; sign = 0; aircraft = true } }
+
+-- one of a single word, a number that may have a minus sign
+abbrev pub signed : String → PlainLine → Named
+signed name l = record { name = plain name; row = record { known = true; command = Plain l; words = 1; bytes = 0; more = 0; sign = 1; aircraft = false } }
 
 -- the lines
 unfoldable pub table : List Named
@@ -51,6 +55,7 @@ table =
     simple "down" plain-line.Down 1 1 0 ∷
     simple "code" plain-line.Code 4 1 0 ∷
     simple "feet" plain-line.Feet 1 0 0 ∷
+    signed "ac" plain-line.Ac ∷
     line "model" (Flight flight-line.Model) 5 0 0 ∷
     flight "queue" flight-line.Queue 1 1 ∷
     flight "send" flight-line.Send 3 3 ∷
@@ -71,11 +76,11 @@ table =
 
 -- how many they are
 abbrev pub rowCount : ℕ
-rowCount = 26
+rowCount = 27
 
 -- where there is none
 abbrev pub noRow : Row
-noRow = record { known = false; command = Unknown; words = 0; bytes = 0; more = 0; aircraft = false }
+noRow = record { known = false; command = Unknown; words = 0; bytes = 0; more = 0; sign = 0; aircraft = false }
 
 -- the line that a word names, by the first of the rows with that name
 unfoldable pub rowIn : List ℕ → List Named → Row

@@ -4,14 +4,18 @@ use mathlib.Core.Path.{_≡_}
 use mathlib.Core.List.{List, [], _++_}
 use mathlib.Core.Option.{Option, some, none}
 use lib.Dec.{eqb}
+use lib.IntN.{ℤ, pos}
 use lib.ListN.{length, getD}
 use Rattle.lists.specs.Lists.{pick}
 use Rattle.text_rules.specs.Put.{laid, Put, decimal}
 use Rattle.text_rules.specs.Plain.{plain}
 use Rattle.text_rules.specs.Bases.{numberOf}
+use Rattle.text_rules.specs.Signed.{integerOf}
 use Rattle.text_rules.specs.Hex.{bytesIn}
 use Rattle.text_rules.specs.declared.answer.Number.{Number}
 use Rattle.text_rules.specs.declared.answer.Number.the-variants.{Is, Not}
+use Rattle.text_rules.specs.declared.answer.Integer.{Integer}
+use Rattle.text_rules.specs.declared.answer.Integer.the-variants as integer
 
 -- ---- read
 
@@ -24,14 +28,22 @@ unfoldable pub theNumber : Number → ℕ
 theNumber (Is n) = n
 theNumber Not = 0
 
+-- the number with its sign that a word says; 0 for a word that says none, whose line is not read
+unfoldable pub theInteger : Integer → ℤ
+theInteger (integer.Is z) = z
+theInteger integer.Not = pos 0
+
 -- the bytes that a word says; none for a word that says none, whose line is not read
 unfoldable pub theBytes : Option (List ℕ) → List ℕ
 theBytes (some bs) = bs
 theBytes none = []
 
--- the number, and the bytes, of the k-th word
+-- the number, the number with its sign, and the bytes of the k-th word
 abbrev pub numberAt : ℕ → List (List ℕ) → ℕ
 numberAt k ws = theNumber (numberOf (word k ws))
+
+abbrev pub integerAt : ℕ → List (List ℕ) → ℤ
+integerAt k ws = theInteger (integerOf (word k ws))
 
 abbrev pub bytesAt : ℕ → List (List ℕ) → List ℕ
 bytesAt k ws = theBytes (bytesIn (word k ws))

@@ -9,6 +9,7 @@ pub use names::FlightLine;
 pub use names::PlainLine;
 pub use names::Reason;
 pub use names::Row;
+pub use names::Sort;
 pub use names::StationLine;
 pub use state::Aircraft;
 pub use state::Answered;

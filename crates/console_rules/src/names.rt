@@ -11,6 +11,7 @@ pub enum PlainLine {
     Down,
     Code,
     Feet,
+    Ac,
     Explain,
     Help,
 }
@@ -46,14 +47,22 @@ pub enum Command {
     Unknown,
 }
 
-// A line: whether there is one of its name, its call, how many words stand behind the name, which of them are bytes (two at most, 0 for
-// none; all others are numbers), and whether it needs an aircraft.
+// What belongs at a word of a line: a number, a number that may have a minus sign, or bytes.
+pub enum Sort {
+    Number,
+    Integer,
+    Bytes,
+}
+
+// A line: whether there is one of its name, its call, how many words stand behind the name, which of them are bytes (two at most) and which
+// may have a minus sign (0 for none; all others are numbers), and whether it needs an aircraft.
 pub struct Row {
     pub known: bool,
     pub command: Command,
     pub words: u8,
     pub bytes: u8,
     pub more: u8,
+    pub sign: u8,
     pub aircraft: bool,
 }
 

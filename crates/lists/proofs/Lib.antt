@@ -1,4 +1,4 @@
--- Laws on lists and arrays, a file for each kind of loop; on tests, tables of checks, tables of numbers, signed differences and XOR.
+-- Laws on lists and arrays, a file for each kind of loop; on tests, tables of checks, tables of numbers, signed numbers and XOR.
 pub mod Tests
 pub mod Checks
 pub mod Every
@@ -16,5 +16,6 @@ pub mod Kept
 pub mod Copied
 pub mod Mapped
 pub mod Signed
+pub mod Sizes
 pub mod Xor
 pub mod Same

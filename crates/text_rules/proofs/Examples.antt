@@ -3,12 +3,12 @@ use Prim.Native.Nat.{ℕ}
 use native.Mathlib.Omega.{arith}
 use mathlib.Core.Path.{_≡_, refl}
 use mathlib.Core.Bool.{true, false}
-use mathlib.Core.List.{List, [], _∷_}
+use mathlib.Core.List.{List, [], _∷_, map}
 use mathlib.Core.Option.{some, none}
-use lib.IntN.{negsuc}
+use lib.IntN.{pos, negsuc}
 use lib.ListN.{replicate}
 use Rattle.text_rules.specs.Put.{decimalIn, decimal, laid, Put}
-use Rattle.text_rules.specs.Signed.{signedDecimal}
+use Rattle.text_rules.specs.Signed.{signedDecimal, upward, downward, integerOf}
 use Rattle.text_rules.specs.Line.{blank, inWord, newline, inLine, grown, parts, full, linesOf, wordsOf, sameAs, front, runEnd}
 use Rattle.text_rules.specs.Line.{lineEnd, lineAfter, lineAt, lineSpan, wordAt, nthAt, within, NthWord}
 use Rattle.text_rules.specs.Number.{between, isDigit, allDigits, valueAfter, numberIn}
@@ -16,6 +16,8 @@ use Rattle.text_rules.specs.Hex.{hexDigit, hexIn, hexOf, hexValue, allHe
 use Rattle.text_rules.specs.Bases.{hexAfter, hexNumber, numberOf}
 use Rattle.text_rules.specs.Plain.{plain}
 use Rattle.text_rules.specs.declared.answer.Number.the-variants.{Is, Not}
+use Rattle.text_rules.specs.declared.answer.Integer.{Integer}
+use Rattle.text_rules.specs.declared.answer.Integer.the-variants as integer
 
 quoted : plain "Az 0#\n" ≡ 65 ∷ 122 ∷ 32 ∷ 48 ∷ 35 ∷ 10 ∷ []
 quoted = refl
@@ -153,3 +155,17 @@ no-bytes = refl
 most-bytes : (bytesIn (replicate 64 48) ≡ some (replicate 32 0)) × (bytesIn (replicate 66 48) ≡ none)
 unfolding bytesIn isHex allHex hexValue isDigit between pairs sameAs
 most-bytes = (refl, refl)
+
+-- ---- a number with its sign: to both ends of 32 bits and one beyond, 0 with a sign, hex without one, and what says none
+abbrev signs : List (List ℕ) → List Integer
+signs ws = map integerOf ws
+
+signed-words :
+    (signs (plain "36000" ∷ plain "-1200" ∷ plain "-0" ∷ plain "0x8CA0" ∷ [])
+    ≡ integer.Is (pos 36000) ∷ integer.Is (negsuc 1199) ∷ integer.Is (pos 0) ∷ integer.Is (pos 36000) ∷ [])
+    × (signs (plain "2147483647" ∷ plain "0x7FFFFFFF" ∷ plain "-2147483648" ∷ [])
+    ≡ integer.Is (pos 2147483647) ∷ integer.Is (pos 2147483647) ∷ integer.Is (negsuc 2147483647) ∷ [])
+    × (signs (plain "2147483648" ∷ plain "0x80000000" ∷ plain "-2147483649" ∷ plain "-00000000001" ∷ []) ≡ replicate 4 integer.Not)
+    × (signs (plain "-0x10" ∷ plain "-" ∷ plain "--1" ∷ plain "+1" ∷ plain "1-" ∷ [] ∷ []) ≡ replicate 6 integer.Not)
+unfolding integerOf upward downward numberOf hexNumber hexAfter numberIn allDigits valueAfter isDigit between allHex hexValue sameAs
+signed-words = (refl, refl, refl, refl)

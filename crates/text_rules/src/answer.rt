@@ -12,6 +12,12 @@ pub enum Number {
     Not,
 }
 
+// What a word says as a number with its sign.
+pub enum Integer {
+    Is(i32),
+    Not,
+}
+
 // What a word says as bytes in hex: how many they are.
 pub enum Hex {
     Bytes(usize),

@@ -3,5 +3,6 @@ mod answer;
 
 pub use answer::Gathered;
 pub use answer::Hex;
+pub use answer::Integer;
 pub use answer::Number;
 pub use answer::Span;

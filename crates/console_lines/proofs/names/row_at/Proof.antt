@@ -16,4 +16,5 @@ row-at-spec =
     (λ c. search needs)
     (λ c. search needs)
     (λ c. search needs)
-    (λ c. row-is _ _ _ _ _ _ (search needs)))
+    (λ c. search needs)
+    (λ c. row-is _ _ _ _ _ _ _ (search needs)))

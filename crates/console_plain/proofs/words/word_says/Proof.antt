@@ -1,7 +1,6 @@
--- `word_says` reads the word, and tells whether it says something.
-use Rattle.console_plain.proofs.words.word_says.Reads as reads
+-- `word_says` goes by the sort.
+use Rattle.console_plain.proofs.Texts.{sort-says}
 use borrow.Author.Needs.{needs}
-use Rattle.console_plain.proofs.Texts.{told}
 use Rattle.console_plain.proofs.words.word_says.Statement.{statement}
 use Rattle.console_plain.proofs.words.word_says.Tie as tie
 
@@ -10,12 +9,11 @@ word-says-spec =
     tie.close
     (tie.spec
     (λ c. search needs)
+    (λ c κs. search needs)
     (λ c. search needs)
+    (λ c κs. search needs)
     (λ c. search needs)
-    (λ c. search told)
-    (λ c. search told)
-    (λ c. search needs)
-    (λ c. search needs)
-    (λ c. search needs)
-    (λ c. search told)
-    (λ c. search told))
+    (λ c κs. search needs)
+    (λ c. search sort-says)
+    (λ c. search sort-says)
+    (λ c. search sort-says))

@@ -7,7 +7,7 @@ use mir.Syntax.{w32}
 use mir.ValLaws.{toZ-ofZ}
 use borrow.Author.Needs.{needs}
 use Rattle.text_rules.specs.Signed.{signedDecimal}
-use Rattle.text.proofs.Sizes.{negative, positive, plus-holds, less-holds, less-is, unsigned}
+use Rattle.lists.proofs.Sizes.{negative, positive, plus-holds, less-holds, less-is, unsigned}
 use Rattle.text.proofs.signed.put_signed.Statement.{statement}
 use Rattle.text.proofs.signed.put_signed.Tie as tie
 use Rattle.text.proofs.signed.put_signed.Reads as reads

@@ -8,8 +8,9 @@ use lib.IntN.{ℤ, pos, negsuc, natAbs, _+ℤ_, _-ℤ_}
 use lib.Signed.{ltZ, nonNeg}
 use mir.Syntax.{w32}
 use mir.Val.{Fits, SFits, toZ, ofZ}
-use mir.ValLaws.{toZ-ofZ}
+use mir.ValLaws.{toZ-ofZ, toZ-pos}
 use borrow.Author.Tests.{lt-ltb, ltb-true}
+use Rattle.lists.proofs.Signed.{minus-fits}
 
 -- one more than −1 − n
 plus-one : (n : ℕ) → negsuc (suc n) +ℤ pos 1 ≡ negsuc n
@@ -68,3 +69,27 @@ module _ (z : ℤ) (fits : SFits w32 z) where
 -- a signed number that is n becomes n
 pub unsigned : (y : ℤ) (n : ℕ) → y ≡ pos n → n < 2 ^ 31 → T (nonNeg y) × Fits w32 (natAbs y)
 unsigned y n e h = rw e (tt, record { fits = omega arith })
+
+-- ---- 0 − m − 1, reckoned one after the other
+
+both-minus : (m : ℕ) → (pos 0 -ℤ pos m) -ℤ pos 1 ≡ negsuc m
+both-minus zero = refl
+both-minus (suc m) =
+    let z : suc (suc m - 1 + 0) ≡ suc m = omega arith in
+    rw (lt-ltb 0 (suc m) (omega arith)) (ap negsuc z)
+
+module _ (m : ℕ) (h : m < 2 ^ 31) where
+  pub turned-fits : SFits w32 (pos 0 -ℤ toZ w32 m)
+  turned-fits = minus-fits 0 m (omega arith) h
+
+  turned-is : toZ w32 (ofZ w32 (pos 0 -ℤ toZ w32 m)) ≡ pos 0 -ℤ pos m
+  turned-is = toZ-ofZ w32 (pos 0 -ℤ toZ w32 m) turned-fits ∙ ap (λ (z : ℤ). pos 0 -ℤ z) (toZ-pos w32 m h)
+
+  as-read : toZ w32 (ofZ w32 (pos 0 -ℤ toZ w32 m)) -ℤ pos 1 ≡ negsuc m
+  as-read = ap (λ (z : ℤ). z -ℤ pos 1) turned-is ∙ both-minus m
+
+  pub below-fits : SFits w32 (toZ w32 (ofZ w32 (pos 0 -ℤ toZ w32 m)) -ℤ pos 1)
+  below-fits = rw as-read (record { sfits = h })
+
+  pub below-is : toZ w32 (ofZ w32 (toZ w32 (ofZ w32 (pos 0 -ℤ toZ w32 m)) -ℤ pos 1)) ≡ negsuc m
+  below-is = toZ-ofZ w32 (toZ w32 (ofZ w32 (pos 0 -ℤ toZ w32 m)) -ℤ pos 1) below-fits ∙ as-read
