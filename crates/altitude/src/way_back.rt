@@ -1,12 +1,12 @@
 // The way back: the code of an altitude in feet.
 ghost use mathlib.Core.Path.{_≡_};
-ghost use Prim.Native.Nat.{_<_, _≤_};
-ghost use Rattle.altitude_rules.specs.WayBack.{raised, reaches, codeBy25, grayCode, groupBits, codeOfBits, codeBy100, writtenNumber, writtenSaid, wayBack};
+ghost use Prim.Native.Nat.{_<_};
+ghost use Rattle.altitude_rules.specs.WayBack.{raised, reaches, codeBy25, codeOfBits, codeBy100, writtenNumber, writtenSaid, wayBack};
 use crate::code::hundreds_in;
 use altitude_rules::Written;
 
-// What stands −1300 ft above, where the 100 ft code counts from.
-const ZERO: u32 = 1300;
+// How far below 0 ft the 100 ft code begins to count.
+const FLOOR: u32 = 1300;
 
 // C1 C2 C4 of 1 to 5.
 const GROUPS: [u32; 6] = [0b000, 0b001, 0b011, 0b010, 0b110, 0b100];
@@ -18,12 +18,12 @@ fn raise(feet: i32) -> u32
     if feet < 0 {
         let less = 0 - (feet + 1);
         let n = less as u32;
-        if ZERO <= n {
+        if FLOOR <= n {
             return 0;
         }
-        return ZERO - 1 - n;
+        return FLOOR - 1 - n;
     }
-    feet as u32 + ZERO
+    feet as u32 + FLOOR
 }
 
 // A multiple of step from low to high.
@@ -89,11 +89,11 @@ pub fn write(feet: i32) -> Written
     ensures { λ r. ⌜ writtenSaid r ≡ wayBack feet ⌝ }
 {
     let up = raise(feet);
-    if is_reached(25, ZERO - 1000, ZERO + 50175, up) {
-        return Written::Code(code_by_25((up - (ZERO - 1000)) / 25));
+    if is_reached(25, FLOOR - 1000, FLOOR + 50175, up) {
+        return Written::Code(code_by_25((up - (FLOOR - 1000)) / 25));
     }
-    if is_reached(100, ZERO - 1200, ZERO + 126700, up) {
-        return Written::Code(code_by_100((up - (ZERO - 1200)) / 100));
+    if is_reached(100, FLOOR - 1200, FLOOR + 126700, up) {
+        return Written::Code(code_by_100((up - (FLOOR - 1200)) / 100));
     }
     Written::NoCode
 }

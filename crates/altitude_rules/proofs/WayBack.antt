@@ -3,7 +3,7 @@ use Prim.Native.Nat.{ℕ, suc, _+_, _-_, _*_, _/_, _%_, _<_, _≤_}
 use native.Mathlib.Omega.{arith}
 use mathlib.Core.Path.{_≡_, refl, sym, ap, _∙_}
 use mathlib.Core.Bool.{Bool, true, false, _&&_, _||_, or-true, false≢true}
-use mathlib.Core.List.{List, [], _∷_}
+use mathlib.Core.List.{[], _∷_}
 use lib.Dec.{eqb, leb, ltb}
 use lib.IntN.{ℤ, pos, negsuc, subℕ}
 use lib.ListN.{getD}
@@ -14,12 +14,11 @@ use Rattle.lists.specs.Answers.{Answer, done, refusal}
 use Rattle.lists.proofs.Tests.{and-true, or-no, or-rest}
 use Rattle.lists.proofs.Every.{every-at, equal-below, less-below}
 use Rattle.lists.proofs.Signed.{same-difference}
-use Rattle.altitude_rules.specs.Code.{Form, formOf, group, eleven, feetBy25, feetBy100, altitude, readAs}
+use Rattle.altitude_rules.specs.Code.{Form, formOf, group, eleven, feetBy25, feetBy100}
 use Rattle.altitude_rules.specs.Code.Form.{allZero, metric, by25, by100, illegal}
-use Rattle.altitude_rules.specs.WayBack.{raised, reaches, reaches25, reaches100, codeBy25, codeOfBits, codeBy100, codeAt, wayBack}
+use Rattle.altitude_rules.specs.WayBack.{raised, reaches, reaches25, reaches100, codeBy25, codeBy100, codeAt, wayBack}
 use Rattle.altitude_rules.specs.Claims.{nth, Writes, Reads, Back100, ThereAndBack}
-use Rattle.altitude_rules.specs.declared.code.Altitude.{Altitude}
-use Rattle.altitude_rules.specs.declared.code.Altitude.the-variants.{Feet, None, Metric, Range, Illegal}
+use Rattle.altitude_rules.specs.declared.code.Altitude.the-variants.{Feet, None, Metric, Illegal}
 use Rattle.altitude_rules.proofs.Forms.{form-by, read-by}
 use Rattle.altitude_rules.proofs.Reckoned.{eleven-lt}
 use Rattle.altitude_rules.proofs.Hundreds.{above, code-lt, hundred-form, code-above, its-code, in-reach, feet-is}

@@ -1,8 +1,8 @@
 -- The reasons not to read a line, from what the code tested: `search judging` finds the reason, and `search faults` the word at fault.
-use Prim.Native.Nat.{ℕ, zero, suc, _+_, _-_, _≤_, _<_}
+use Prim.Native.Nat.{ℕ, suc, _+_, _-_, _≤_, _<_}
 use native.Mathlib.Numerals.{add-one}
 use native.Mathlib.Omega.{arith}
-use mathlib.Core.Path.{_≡_, refl, sym, ap, _∙_}
+use mathlib.Core.Path.{_≡_, sym, ap, _∙_}
 use mathlib.Core.Bool.{Bool, true, false, not, _&&_}
 use mathlib.Core.List.{List}
 use lib.Dec.{eqb}
@@ -13,7 +13,7 @@ use Rattle.console_rules.specs.declared.names.Row.{Row}
 use Rattle.console_rules.specs.declared.names.Sort.{Sort}
 use Rattle.console_rules.specs.declared.names.Sort.the-variants as sort
 use Rattle.console_rules.specs.declared.names.Reason.{Reason}
-use Rattle.console_rules.specs.declared.names.Reason.the-variants.{Read, NoSuchLine, Wanted, NoAircraft, NoNumber, NoBytes}
+use Rattle.console_rules.specs.declared.names.Reason.the-variants.{Read, NoSuchLine, Wanted, NoAircraft}
 use Rattle.text_rules.specs.Put.{Put}
 use Rattle.text_rules.proofs.Laid.{put-none}
 use Rattle.console_rules.specs.Texts.{word, Brief}

@@ -36,7 +36,7 @@ use Rattle.frames_rules.specs.Frames.{front, sealed, framed}
 use Rattle.frames_rules.specs.Building.{selective, allCall, buildingChecks, building, allCallingChecks, allCalling}
 use Rattle.frames_rules.specs.Codes.{codeOfChecks, codeOf}
 use Rattle.frames_rules.specs.Reading.{formatOf, readChecks, readAs, allCallRead, selectiveRead, allCallReplyRead, surveillanceRead, mbPart}
-use Rattle.console_rules.specs.Texts.{word, theBytes, numberAt, bytesAt, doneText, refusalText, answerText}
+use Rattle.console_rules.specs.Texts.{word, theBytes, bytesAt, doneText, refusalText, answerText}
 use Rattle.console_rules.specs.Parity.{reckonedText, correctedText, remainderText, overlayText, fixedText, correctText}
 use Rattle.console_rules.specs.Building.{builtText, selectiveText, buildText, allCallText}
 use Rattle.console_rules.specs.Frames.{numberText, numbersText, fieldsText, endText, valuesText, readText, interrogationText, replyText, upText}

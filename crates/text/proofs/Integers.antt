@@ -2,10 +2,10 @@
 use Prim.Native.Nat.{ℕ, _-_, _^_, _≤_, _<_}
 use native.Mathlib.Omega.{arith}
 use mathlib.Core.Path.{_≡_, refl, sym, ap, _∙_}
-use mathlib.Core.Bool.{true, false, and-true}
+use mathlib.Core.Bool.{and-true}
 use mathlib.Core.List.{List, [], _∷_}
 use lib.Dec.{eqb}
-use lib.IntN.{pos, negsuc, subℕ, _-ℤ_}
+use lib.IntN.{pos, negsuc, _-ℤ_}
 use lib.Seq.{take-all}
 use lib.ListN.{length, getD, take, drop, length-drop}
 use mir.Syntax.{w32}
@@ -15,7 +15,7 @@ use borrow.Author.Tests.{lt-ltb, le-ltb, le-leb, lt-leb, eq-eqb, ne-eqb}
 use Rattle.lists.proofs.Sizes.{below-is}
 use Rattle.text_rules.specs.Line.{sameAs}
 use Rattle.text_rules.specs.Number.{numberIn}
-use Rattle.text_rules.specs.Bases.{hexNumber, numberOf}
+use Rattle.text_rules.specs.Bases.{numberOf}
 use Rattle.text_rules.specs.Signed.{upward, downward, integerOf}
 use Rattle.text_rules.specs.declared.answer.Number.{Number}
 use Rattle.text_rules.specs.declared.answer.Number.the-variants as number

@@ -1,6 +1,5 @@
 -- `is_reached` asks for a multiple, then for both ends.
 use Prim.Native.Nat.{_%_}
-use mathlib.Core.Path.{refl}
 use borrow.Author.Needs.{needs}
 use borrow.Author.Tests.{eq-eqb, ne-eqb, le-leb, lt-leb}
 use Rattle.altitude_rules.specs.WayBack.{reaches}
