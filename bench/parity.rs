@@ -1,49 +1,57 @@
 // Times the proved library against the same rules written anew in Rust, both built for release, in one run.
-// Every input is first answered by both, and a difference stops the run.
+// Every input is first answered by both, and a difference stops the run. Built with `--cfg before` (bench/against) it times
+// the library of an earlier revision instead, whose names begin with `before_`.
 use std::hint::black_box;
 use std::time::Instant;
 
 mod division;
 
-extern "C" {
-    fn jerungkal_remainder(msg: *const u8, len: usize) -> u64;
-    fn jerungkal_correct(
-        msg: *const u8,
-        len: usize,
-        marks: *const u8,
-        marks_len: usize,
-        overlay: u32,
-        limit: u32,
-        out: *mut u8,
-        out_len: usize,
-    ) -> u64;
-}
+// A proved library, by the names of its calls. The slices are whole and live as long as the call, which is all that it asks.
+macro_rules! library {
+    ($name:ident, $remainder:literal, $correct:literal) => {
+        mod $name {
+            extern "C" {
+                #[link_name = $remainder]
+                fn reckon(msg: *const u8, len: usize) -> u64;
+                #[link_name = $correct]
+                fn mend(
+                    msg: *const u8,
+                    len: usize,
+                    marks: *const u8,
+                    marks_len: usize,
+                    overlay: u32,
+                    limit: u32,
+                    out: *mut u8,
+                    out_len: usize,
+                ) -> u64;
+            }
 
-// The proved library. The slices are whole and live as long as the call, which is all that it asks.
-mod proved {
-    pub fn remainder(msg: &[u8]) -> u64 {
-        unsafe { super::jerungkal_remainder(msg.as_ptr(), msg.len()) }
-    }
+            pub fn remainder(msg: &[u8]) -> u64 {
+                unsafe { reckon(msg.as_ptr(), msg.len()) }
+            }
 
-    pub fn correct(msg: &[u8], marks: &[u8], overlay: u32, limit: u32, out: &mut [u8]) -> u64 {
-        unsafe {
-            super::jerungkal_correct(
-                msg.as_ptr(),
-                msg.len(),
-                marks.as_ptr(),
-                marks.len(),
-                overlay,
-                limit,
-                out.as_mut_ptr(),
-                out.len(),
-            )
+            pub fn correct(msg: &[u8], marks: &[u8], overlay: u32, limit: u32, out: &mut [u8]) -> u64 {
+                let (n, m, o) = (msg.len(), marks.len(), out.len());
+                unsafe { mend(msg.as_ptr(), n, marks.as_ptr(), m, overlay, limit, out.as_mut_ptr(), o) }
+            }
         }
-    }
+    };
 }
+
+library!(proved, "jerungkal_remainder", "jerungkal_correct");
+
+#[cfg(before)]
+library!(before, "before_jerungkal_remainder", "before_jerungkal_correct");
+
+// What the library is timed against.
+#[cfg(before)]
+use before as other;
+#[cfg(not(before))]
+use plain as other;
 
 // The same rules in Rust.
 mod plain {
-    use super::division::{divide, GENERATOR};
+    use super::division::divide;
 
     // What a byte at x^24 to x^31 leaves: FFF409 for x^24, 1C1B moved up for each power above it.
     fn overflow(h: u32) -> u32 {
@@ -52,9 +60,12 @@ mod plain {
         (h & 1) * 0xFF_F409 ^ (twice ^ k << 2) << 10 ^ twice << 3 ^ twice
     }
 
+    fn byte(r: u32, b: u8) -> u32 {
+        overflow(r >> 16) ^ ((r & 0xFFFF) << 8 | b as u32)
+    }
+
     fn bytes(msg: &[u8]) -> u32 {
-        msg.iter()
-            .fold(0, |r, &b| overflow(r >> 16) ^ ((r & 0xFFFF) << 8 | b as u32))
+        msg.iter().fold(0, |r, &b| byte(r, b))
     }
 
     #[inline(never)]
@@ -73,18 +84,11 @@ mod plain {
         }
     }
 
-    const fn syndromes() -> [u32; 112] {
-        let mut t = [1u32; 112];
-        let mut i = 111;
-        while i > 0 {
-            let r = t[i] << 1;
-            t[i - 1] = if r & 0x100_0000 != 0 { r ^ GENERATOR } else { r };
-            i -= 1;
-        }
-        t
+    // The syndrome of x^k: a power below x^24 is its own, and a byte of zeros moves it up by eight.
+    pub fn syndrome(k: usize) -> u32 {
+        let at = if k < 24 { k } else { 16 + k % 8 };
+        (at..k).step_by(8).fold(1 << at, |r, _| byte(r, 0))
     }
-
-    static SYNDROMES: [u32; 112] = syndromes();
 
     fn bit(s: &[u8], i: usize) -> bool {
         s[i / 8] >> (7 - i % 8) & 1 == 1
@@ -116,7 +120,7 @@ mod plain {
         for k in 0..n * 8 {
             if bit(marks, n * 8 - 1 - k) {
                 if many < 12 {
-                    syns[many] = SYNDROMES[111 - k];
+                    syns[many] = syndrome(k);
                 }
                 many += 1;
             }
@@ -165,20 +169,20 @@ impl Bytes {
     }
 }
 
-// A message with some marked bits, every other one of them wrong, and the overlay that the sent message had.
+// A message with some marked bits in its first bytes, every other one of them wrong, and the overlay that the sent message had.
 struct Case {
     msg: Vec<u8>,
     marks: Vec<u8>,
     overlay: u32,
 }
 
-fn case(source: &mut Bytes, n: usize, marked: usize) -> Case {
+fn case(source: &mut Bytes, n: usize, first: usize, marked: usize) -> Case {
     let sent: Vec<u8> = (0..n).map(|_| source.next()).collect();
     let overlay = division::divide(&sent);
     let (mut msg, mut marks) = (sent, vec![0u8; n]);
     let mut many = 0;
     while many < marked {
-        let (at, bit) = (source.next() as usize % n, 1u8 << (source.next() % 8));
+        let (at, bit) = (source.next() as usize % first, 1u8 << (source.next() % 8));
         if marks[at] & bit == 0 {
             marks[at] |= bit;
             if many % 2 == 0 {
@@ -204,43 +208,61 @@ fn race<A: FnMut(usize), B: FnMut(usize)>(calls: usize, mut a: A, mut b: B) -> (
     (best_a, best_b)
 }
 
-fn line(what: &str, proved: f64, plain: f64) {
-    println!("{what:<34} {proved:>10.1} ns {plain:>10.1} ns {:>8.2}", proved / plain);
+fn line(what: &str, proved: f64, other: f64) {
+    println!("{what:<34} {proved:>10.1} ns {other:>10.1} ns {:>8.2}", proved / other);
+}
+
+// The message with bit i alone, from 0, is divided bit by bit.
+fn syndromes_agree() {
+    for i in 0..112 {
+        let mut msg = [0u8; 14];
+        msg[i / 8] = 0x80 >> (i % 8);
+        assert_eq!(plain::syndrome(111 - i), division::divide(&msg));
+    }
 }
 
 fn agree(source: &mut Bytes) {
     for round in 0..4000 {
-        let c = case(source, [7, 14][round % 2], round % 14);
-        let (mut a, mut b) = (vec![1u8; c.msg.len()], vec![1u8; c.msg.len()]);
+        let n = [7, 14][round % 2];
+        let c = case(source, n, n, round % 14);
         let limit = (round % 15) as u32;
-        assert_eq!(proved::remainder(&c.msg), plain::remainder(&c.msg));
-        assert_eq!(proved::remainder(&c.msg), plain::bit_loop(&c.msg));
-        let p = proved::correct(&c.msg, &c.marks, c.overlay, limit, &mut a);
-        let q = plain::correct(&c.msg, &c.marks, c.overlay, limit, &mut b);
-        assert_eq!((p, a), (q, b));
+        let answered = |f: fn(&[u8], &[u8], u32, u32, &mut [u8]) -> u64| {
+            let mut out = vec![1u8; c.msg.len()];
+            (f(&c.msg, &c.marks, c.overlay, limit, &mut out), out)
+        };
+        for remainder in [plain::remainder, plain::bit_loop, other::remainder] {
+            assert_eq!(proved::remainder(&c.msg), remainder(&c.msg));
+        }
+        for correct in [plain::correct, other::correct] {
+            assert_eq!(answered(proved::correct), answered(correct));
+        }
     }
 }
 
 fn main() {
     let mut source = Bytes(20);
     agree(&mut source);
-    println!("{:<34} {:>13} {:>13} {:>8}", "", "proved", "Rust", "ratio");
+    syndromes_agree();
+    let against = if cfg!(before) { "before" } else { "Rust" };
+    println!("{:<34} {:>13} {against:>13} {:>8}", "", "proved", "ratio");
     for n in [7, 14] {
-        let cases: Vec<Case> = (0..16).map(|_| case(&mut source, n, 0)).collect();
+        let cases: Vec<Case> = (0..16).map(|_| case(&mut source, n, n, 0)).collect();
         let run = |f: fn(&[u8]) -> u64| {
             let cases = &cases;
             move |i: usize| {
                 black_box(f(black_box(&cases[i % 16].msg)));
             }
         };
-        let (p, q) = race(20000, run(proved::remainder), run(plain::remainder));
+        let (p, q) = race(20000, run(proved::remainder), run(other::remainder));
         line(&format!("remainder of {n} bytes"), p, q);
-        let (p, q) = race(20000, run(proved::remainder), run(plain::bit_loop));
-        line(&format!("remainder of {n} bytes, bit loop"), p, q);
+        if !cfg!(before) {
+            let (p, q) = race(20000, run(proved::remainder), run(plain::bit_loop));
+            line(&format!("remainder of {n} bytes, bit loop"), p, q);
+        }
     }
     for n in [7, 14] {
-        for marked in [0, 5, 12] {
-            let cases: Vec<Case> = (0..16).map(|_| case(&mut source, n, marked)).collect();
+        for (marked, first) in [(0, n), (5, n), (5, 1), (12, n)] {
+            let cases: Vec<Case> = (0..16).map(|_| case(&mut source, n, first, marked)).collect();
             let run = |f: fn(&[u8], &[u8], u32, u32, &mut [u8]) -> u64| {
                 let cases = &cases;
                 let mut out = vec![0u8; n];
@@ -250,8 +272,9 @@ fn main() {
                 }
             };
             let calls = [4000, 2000, 100][(marked + 4) / 8];
-            let (p, q) = race(calls, run(proved::correct), run(plain::correct));
-            line(&format!("correct, {n} bytes, {marked} marks"), p, q);
+            let (p, q) = race(calls, run(proved::correct), run(other::correct));
+            let whereabouts = if first < n { " in the first" } else { "" };
+            line(&format!("correct, {n} bytes, {marked} marks{whereabouts}"), p, q);
         }
     }
 }

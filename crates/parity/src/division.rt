@@ -20,7 +20,7 @@ fn moved_up(h: u32) -> u32
 }
 
 // Eight more coefficients of a polynomial, reduced by the generator.
-fn byte_in(r: u32, b: u8) -> u32
+pub(crate) fn byte_in(r: u32, b: u8) -> u32
     requires { ⌜ r < 16777216 ⌝ }
     ensures { λ q. ⌜ (q ≡ divide r (byteThen b [])) × (q < 16777216) ⌝ }
 {

@@ -2,127 +2,22 @@
 ghost use mathlib.Core.Path.{_≡_};
 ghost use Prim.Native.Nat.{_<_};
 ghost use Rattle.parity_rules.specs.Division.{syndrome};
+use crate::division::byte_in;
 
-// The syndromes of long bits 1 to 112.
-const SYNDROMES: [u32; 112] = [
-    0x3935EA,
-    0x1C9AF5,
-    0xF1B77E,
-    0x78DBBF,
-    0xC397DB,
-    0x9E31E9,
-    0xB0E2F0,
-    0x587178,
-    0x2C38BC,
-    0x161C5E,
-    0x0B0E2F,
-    0xFA7D13,
-    0x82C48D,
-    0xBE9842,
-    0x5F4C21,
-    0xD05C14,
-    0x682E0A,
-    0x341705,
-    0xE5F186,
-    0x72F8C3,
-    0xC68665,
-    0x9CB936,
-    0x4E5C9B,
-    0xD8D449,
-    0x939020,
-    0x49C810,
-    0x24E408,
-    0x127204,
-    0x093902,
-    0x049C81,
-    0xFDB444,
-    0x7EDA22,
-    0x3F6D11,
-    0xE04C8C,
-    0x702646,
-    0x381323,
-    0xE3F395,
-    0x8E03CE,
-    0x4701E7,
-    0xDC7AF7,
-    0x91C77F,
-    0xB719BB,
-    0xA476D9,
-    0xADC168,
-    0x56E0B4,
-    0x2B705A,
-    0x15B82D,
-    0xF52612,
-    0x7A9309,
-    0xC2B380,
-    0x6159C0,
-    0x30ACE0,
-    0x185670,
-    0x0C2B38,
-    0x06159C,
-    0x030ACE,
-    0x018567,
-    0xFF38B7,
-    0x80665F,
-    0xBFC92B,
-    0xA01E91,
-    0xAFF54C,
-    0x57FAA6,
-    0x2BFD53,
-    0xEA04AD,
-    0x8AF852,
-    0x457C29,
-    0xDD4410,
-    0x6EA208,
-    0x375104,
-    0x1BA882,
-    0x0DD441,
-    0xF91024,
-    0x7C8812,
-    0x3E4409,
-    0xE0D800,
-    0x706C00,
-    0x383600,
-    0x1C1B00,
-    0x0E0D80,
-    0x0706C0,
-    0x038360,
-    0x01C1B0,
-    0x00E0D8,
-    0x00706C,
-    0x003836,
-    0x001C1B,
-    0xFFF409,
-    0x800000,
-    0x400000,
-    0x200000,
-    0x100000,
-    0x080000,
-    0x040000,
-    0x020000,
-    0x010000,
-    0x008000,
-    0x004000,
-    0x002000,
-    0x001000,
-    0x000800,
-    0x000400,
-    0x000200,
-    0x000100,
-    0x000080,
-    0x000040,
-    0x000020,
-    0x000010,
-    0x000008,
-    0x000004,
-    0x000002,
-    0x000001,
-];
-
-// The syndrome of x^k: of the bit with k bits after it, in a message of either length.
+// The syndrome of x^k: of the bit with k bits after it, in a message of either length. Worked out from the generator, with no table:
+// a power below x^24 is its own, and a byte of zeros moves it up by eight.
 pub(crate) fn syndrome_of(k: usize) -> u32
     requires { ⌜ k < 112 ⌝ }
     ensures { λ r. ⌜ r ≡ syndrome k ⌝ }
 {
-    SYNDROMES[111 - k]
+    let mut at = k;
+    if 24 <= k {
+        at = 16 + k % 8;
+    }
+    let mut r: u32 = 1 << (at as u32);
+    while at < k {
+        r = byte_in(r, 0);
+        at += 8;
+    }
+    r
 }
