@@ -209,7 +209,7 @@ fn race<A: FnMut(usize), B: FnMut(usize)>(calls: usize, mut a: A, mut b: B) -> (
 }
 
 fn line(what: &str, proved: f64, other: f64) {
-    println!("{what:<34} {proved:>10.1} ns {other:>10.1} ns {:>8.2}", proved / other);
+    println!("{what:<40} {proved:>10.1} ns {other:>10.1} ns {:>8.2}", proved / other);
 }
 
 // The message with bit i alone, from 0, is divided bit by bit.
@@ -244,7 +244,7 @@ fn main() {
     agree(&mut source);
     syndromes_agree();
     let against = if cfg!(before) { "before" } else { "Rust" };
-    println!("{:<34} {:>13} {against:>13} {:>8}", "", "proved", "ratio");
+    println!("{:<40} {:>13} {against:>13} {:>8}", "", "proved", "ratio");
     for n in [7, 14] {
         let cases: Vec<Case> = (0..16).map(|_| case(&mut source, n, n, 0)).collect();
         let run = |f: fn(&[u8]) -> u64| {
