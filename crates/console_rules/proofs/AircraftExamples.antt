@@ -8,7 +8,7 @@ use Rattle.lists.specs.Lists.{over}
 use Rattle.lists.specs.Checks.{checked}
 use Rattle.text_rules.specs.Plain.{plain}
 use Rattle.text_rules.specs.Put.{decimalIn, decimal}
-use Rattle.text_rules.specs.Line.{newline, linesOf}
+use Rattle.text_rules.specs.Line.{newline, linesOf, wordsOf}
 use Rattle.text_rules.specs.Hex.{hexDigit, hexIn, hexOf}
 use Rattle.parity_rules.specs.Messages.{bits}
 use Rattle.parity_rules.specs.Division.{shiftIn, divide, remainderOf}
@@ -29,7 +29,9 @@ use Rattle.console_rules.specs.Aircraft.{unmade, madeSaid, modelSaid, qu
 use Rattle.console_rules.specs.Aircraft.{timerText, lockText, locksText, stateText, stateSaid}
 use Rattle.console_rules.specs.Explain.{meanings, meaningText, explainText}
 use Rattle.console_rules.specs.Reasons.{reasonText}
+use Rattle.console_rules.specs.Console as console
 use Rattle.console_rules.specs.Console.{linesText, consoleText}
+use Rattle.console_rules.specs.Strides.{benchAfter, StrideLine}
 use Rattle.console_rules.proofs.Examples.{Reading}
 
 -- a line and what it prints, both as quoted texts without their newlines
@@ -137,3 +139,9 @@ unfolding Reading checked consoleText linesText linesOf newline answerText doneT
     laidOver taking unmade madeSaid modelSaid queuedSaid queueSaid sentText tookSaid sendSaid holderText timerText lockText locksText stateText
     stateSaid upOf selectiveComes allCallComes comes reasonText
 runs-printed = (refl, refl, refl, refl, refl)
+
+-- a `send` of a UF 4 for 406B90 only moves the clock of 484FDE
+a-stride : StrideLine (benchAfter console.begun (plain "model 4739038 5912 2349 0 5" ∷ [])) (plain "send 150 0 20000000FFD641")
+unfolding Reading checked benchAfter decimal decimalIn bits shiftIn divide remainderOf lowBits times overlayOf newborn makeRanged making laidOver unmade
+    madeSaid modelSaid refusalText upOf headOf
+a-stride = record { words = wordsOf (plain "send 150 0 20000000FFD641"); sends = refl; others = refl }

@@ -4,6 +4,7 @@ pub mod Short
 pub mod ShortAircraft
 pub mod Table
 pub mod Run
+pub mod Strides
 mod AircraftExamples
 mod Examples
 mod StationExamples

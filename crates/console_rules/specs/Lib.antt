@@ -13,3 +13,4 @@ pub mod PlainLines
 pub mod Names
 pub mod Reasons
 pub mod Console
+pub mod Strides

@@ -2,20 +2,21 @@
 use mathlib.Core.Path.{_≡_, refl, sym, ap, ap₂, _∙_, subst}
 use mathlib.Core.Bool.{Bool, true, false}
 use mathlib.Core.List.{List, [], _∷_}
-use Prim.Native.Nat.{ℕ, zero, suc, _+_, _-_, _*_, _/_, _%_, _^_, _<_, _≤_}
-use native.Mathlib.Nat.{pow-suc, add-mul, mul-assoc, add-assoc, mod-eq-of-lt}
+use Prim.Native.Nat.{ℕ, zero, suc, _+_, _*_, _/_, _%_, _^_, _<_, _≤_}
+use native.Mathlib.Nat.{pow-suc, add-mul, mul-assoc, add-assoc}
 use native.Mathlib.Omega.{arith}
 use lib.Arith.{digits-lt, digits-mod}
-use lib.Bits.{bitXor, xor-lt, xor-shr, xor-self, xor-block, xor-zero-r}
+use lib.Bits.{bitXor, xor-shr, xor-self, xor-zero-r}
 use lib.Dec.{ltb}
 use lib.ListN.{length}
-use lib.Pow.{high, mod-pow-add}
+use lib.Pow.{high}
 use borrow.Author.Tests.{ltb-true, ltb-false, lt-ltb, le-ltb}
 use Rattle.lists.proofs.Xor.{xor-swap, xor-move}
 use Rattle.parity_rules.specs.Messages.{AreBits}
 use Rattle.lists.specs.Lists.{spelled, All}
 use Rattle.parity_rules.specs.Division.{generator, shiftIn}
 use Rattle.parity_rules.specs.Overlays.{lowBits, times, overlayOf}
+use Rattle.parity_rules.proofs.Uplink.{double-xor, overlay-one}
 use Rattle.parity_rules.proofs.Laws.{overlay-lt}
 use Rattle.frames_rules.specs.declared.answers.Address.{Address}
 use Rattle.frames_rules.specs.declared.answers.Address.the-variants.{Is, Nobody}
@@ -57,31 +58,6 @@ bits-back (b ∷ bs) h r =
     ∙ digits-mod r (h .0))
     (bits-back bs (h .1) (r * 2 + b))
 
-low-length : (n a : ℕ) → length (lowBits n a) ≡ n
-unfolding lowBits
-low-length zero a = refl
-low-length (suc n) a = ap suc (low-length n a)
-
-low-are : (n a : ℕ) → AreBits (lowBits n a)
-unfolding All lowBits
-low-are zero a = tt
-low-are (suc n) a = (omega arith, low-are n a)
-
--- the low bits spell the number
-low-more : (a n : ℕ) → a % 2 ^ suc n ≡ a / 2 ^ n % 2 * 2 ^ n + a % 2 ^ n
-low-more a n = let e : suc n ≡ 1 + n = omega arith in rw e (mod-pow-add a 1 n)
-
-low-spelled : (n a r : ℕ) → spelled r (lowBits n a) ≡ r * 2 ^ n + a % 2 ^ n
-unfolding lowBits
-low-spelled zero a r = omega arith
-low-spelled (suc n) a r =
-    low-spelled n a (r * 2 + a / 2 ^ n % 2)
-    ∙ grown r (a / 2 ^ n % 2) (2 ^ n) (a % 2 ^ n)
-    ∙ sym (ap₂ (λ (x y : ℕ). r * x + y) (twice n) (low-more a n))
-
-number-back : (a : ℕ) → a < 16777216 → spelled 0 (lowBits 24 a) ≡ a
-number-back a h = let e : a % 16777216 ≡ a = mod-eq-of-lt h in low-spelled 24 a 0 ∙ omega arith
-
 -- ---- the product with the quotient, and what the division leaves, are the dividend
 -- the steps' leavings: what is left of r after n of them
 leftOver : ℕ → ℕ → ℕ
@@ -106,13 +82,6 @@ unfolding quotientBits
 quotient-length zero r = refl
 quotient-length (suc n) r = ap suc (quotient-length n (shiftIn r 0))
 
-double : (a b : ℕ) → bitXor (a * 2) (b * 2) ≡ bitXor a b * 2
-double a b =
-    let e : a * 2 ≡ a * 2 + 0 = omega arith in
-    let f : b * 2 ≡ b * 2 + 0 = omega arith in
-    let g : bitXor a b * 2 + 0 ≡ bitXor a b * 2 = omega arith in
-    ap₂ bitXor e f ∙ xor-block 1 a b 0 0 (omega arith) (omega arith) ∙ g
-
 cancel-both : (a b g : ℕ) → bitXor (bitXor a g) (bitXor b g) ≡ bitXor a b
 cancel-both a b g = xor-swap a g b g ∙ ap (bitXor (bitXor a b)) (xor-self g) ∙ xor-zero-r (bitXor a b)
 
@@ -122,7 +91,7 @@ dividend zero p r h = omega arith
 dividend (suc n) p r h =
     let g = r / 8388608 * generator in
     dividend n (bitXor (p * 2) g) (shiftIn r 0) (next-lt r h)
-    ∙ ap (λ (x : ℕ). x * 2 ^ n) (ap (bitXor (bitXor (p * 2) g)) (step-is r h) ∙ cancel-both (p * 2) (r * 2) g ∙ double p r)
+    ∙ ap (λ (x : ℕ). x * 2 ^ n) (ap (bitXor (bitXor (p * 2) g)) (step-is r h) ∙ cancel-both (p * 2) (r * 2) g ∙ double-xor p r)
     ∙ mul-assoc (bitXor p r) 2 (2 ^ n)
     ∙ ap (λ (x : ℕ). bitXor p r * x) (sym (twice n))
 
@@ -149,77 +118,6 @@ module _ (r : ℕ) (h : r < 16777216) where
       ∙ xor-shr (r * 16777216) (leftOver 24 r) 24
       ∙ ap₂ bitXor k l
       ∙ xor-zero-r r
-
--- ---- and of no other
-bit-lt : (b : ℕ) → b < 2 → b * generator < 33554432
-bit-lt b h = omega arith
-
--- products that differ above x^23 differ there whatever bits follow
-apart : (xs ys : List ℕ) → AreBits xs → AreBits ys → length xs ≡ length ys → (p q : ℕ) → 16777216 ≤ bitXor p q → 16777216 ≤ bitXor (times p xs) (times q ys)
-unfolding All times
-apart [] [] hx hy e p q l = l
-apart [] (y ∷ ys) hx hy e p q l = absurd (omega arith)
-apart (x ∷ xs) [] hx hy e p q l = absurd (omega arith)
-apart (x ∷ xs) (y ∷ ys) hx hy e p q l =
-    let d : bitXor (bitXor (p * 2) (x * generator)) (bitXor (q * 2) (y * generator)) / 33554432 ≡ bitXor p q / 16777216 =
-    ap (λ (k : ℕ). k / 33554432)
-    (xor-swap (p * 2) (x * generator) (q * 2) (y * generator) ∙ ap (λ (k : ℕ). bitXor k (bitXor (x * generator) (y * generator))) (double p q))
-    ∙ xor-shr (bitXor p q * 2) (bitXor (x * generator) (y * generator)) 25
-    ∙ ap₂ bitXor (halves (bitXor p q))
-    (none (bitXor (x * generator) (y * generator)) (xor-lt 25 (x * generator) (y * generator) (bit-lt x (hx .0)) (bit-lt y (hy .0))))
-    ∙ xor-zero-r (bitXor p q / 16777216) in
-    apart xs ys (hx .1) (hy .1) (omega arith) (bitXor (p * 2) (x * generator)) (bitXor (q * 2) (y * generator)) (above _ (bitXor p q) d l)
-  where
-    halves : (k : ℕ) → k * 2 / 33554432 ≡ k / 16777216
-    halves k = omega arith
-
-    none : (k : ℕ) → k < 33554432 → k / 33554432 ≡ 0
-    none k h = omega arith
-
-    above : (a b : ℕ) → a / 33554432 ≡ b / 16777216 → 16777216 ≤ b → 16777216 ≤ a
-    above a b f g = omega arith
-
--- a product's bits above x^23 tell the factor's bits
-zero-one : (p : ℕ) → 16777216 ≤ bitXor (bitXor (p * 2) (0 * generator)) (bitXor (p * 2) (1 * generator))
-zero-one p =
-    let e : bitXor (bitXor (p * 2) (0 * generator)) (bitXor (p * 2) (1 * generator)) ≡ generator =
-    xor-swap (p * 2) (0 * generator) (p * 2) (1 * generator) ∙ ap (λ (k : ℕ). bitXor k (bitXor (0 * generator) (1 * generator))) (xor-self (p * 2)) in
-    rw e (omega arith)
-
-one-zero : (p : ℕ) → 16777216 ≤ bitXor (bitXor (p * 2) (1 * generator)) (bitXor (p * 2) (0 * generator))
-one-zero p =
-    let e : bitXor (bitXor (p * 2) (1 * generator)) (bitXor (p * 2) (0 * generator)) ≡ generator =
-    xor-swap (p * 2) (1 * generator) (p * 2) (0 * generator) ∙ ap (λ (k : ℕ). bitXor k (bitXor (1 * generator) (0 * generator))) (xor-self (p * 2)) in
-    rw e (omega arith)
-
-same-upper : (a b : ℕ) → a / 16777216 ≡ b / 16777216 → 16777216 ≤ bitXor a b → ⊥
-same-upper a b e l =
-    let d : bitXor a b / 16777216 ≡ 0 = xor-shr a b 24 ∙ ap (λ (k : ℕ). bitXor k (b / 16777216)) e ∙ xor-self (b / 16777216) in
-    omega arith
-
-told-apart : (xs ys : List ℕ) → AreBits xs → AreBits ys → length xs ≡ length ys → (p : ℕ) → times p xs / 16777216 ≡ times p ys / 16777216 → xs ≡ ys
-unfolding All times
-told-apart [] [] hx hy e p q = refl
-told-apart [] (y ∷ ys) hx hy e p q = absurd (omega arith)
-told-apart (x ∷ xs) [] hx hy e p q = absurd (omega arith)
-told-apart (zero ∷ xs) (zero ∷ ys) hx hy e p q = ap (λ (l : List ℕ). 0 ∷ l) (told-apart xs ys (hx .1) (hy .1) (omega arith) (bitXor (p * 2) (0 * generator)) q)
-told-apart (zero ∷ xs) (suc zero ∷ ys) hx hy e p q =
-    absurd (same-upper _ _ q (apart xs ys (hx .1) (hy .1) (omega arith) (bitXor (p * 2) (0 * generator)) (bitXor (p * 2) (1 * generator)) (zero-one p)))
-told-apart (suc zero ∷ xs) (zero ∷ ys) hx hy e p q =
-    absurd (same-upper _ _ q (apart xs ys (hx .1) (hy .1) (omega arith) (bitXor (p * 2) (1 * generator)) (bitXor (p * 2) (0 * generator)) (one-zero p)))
-told-apart (suc zero ∷ xs) (suc zero ∷ ys) hx hy e p q =
-    ap (λ (l : List ℕ). 1 ∷ l) (told-apart xs ys (hx .1) (hy .1) (omega arith) (bitXor (p * 2) (1 * generator)) q)
-told-apart (suc (suc x) ∷ xs) (y ∷ ys) hx hy e p q = absurd (omega arith)
-told-apart (zero ∷ xs) (suc (suc y) ∷ ys) hx hy e p q = absurd (omega arith)
-told-apart (suc zero ∷ xs) (suc (suc y) ∷ ys) hx hy e p q = absurd (omega arith)
-
--- two numbers of 24 bits with the same overlay are one
-pub overlay-one : (a b : ℕ) → a < 16777216 → b < 16777216 → overlayOf a ≡ overlayOf b → a ≡ b
-unfolding overlayOf
-overlay-one a b ha hb e =
-    sym (number-back a ha)
-    ∙ ap (spelled 0) (told-apart (lowBits 24 a) (lowBits 24 b) (low-are 24 a) (low-are 24 b) (low-length 24 a ∙ sym (low-length 24 b)) 0 e)
-    ∙ number-back b hb
 
 -- ---- what `address_of` says
 -- the number found is below 2^24 and has this overlay; where nobody is named, no number of 24 bits has it

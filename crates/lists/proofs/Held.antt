@@ -1,7 +1,7 @@
--- What holds of each element: of one more, of two lists joined, of a part, under an implication.
+-- What holds of each element: of one more, of two lists joined, of a part, of one repeated, under an implication.
 use Prim.Native.Nat.{ℕ, zero, suc}
 use mathlib.Core.List.{List, [], _∷_, _++_}
-use lib.ListN.{take, drop}
+use lib.ListN.{take, drop, replicate}
 use Rattle.lists.specs.Lists.{All}
 
 module _ {A : Type 0} (P : A → Type 0) where
@@ -47,6 +47,11 @@ module _ {A : Type 0} (P : A → Type 0) where
   unfolding All
   all-snoc [] x a h = (h, tt)
   all-snoc (y ∷ v) x a h = (a .0, all-snoc v x (a .1) h)
+
+  pub all-same : (n : ℕ) (x : A) → P x → All P (replicate n x)
+  unfolding All
+  all-same zero x h = tt
+  all-same (suc n) x h = (h, all-same n x h)
 
 pub all-map : {A : Type 0} (P Q : A → Type 0) → ((x : A) → P x → Q x) → (v : List A) → All P v → All Q v
 unfolding All

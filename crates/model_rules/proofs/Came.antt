@@ -29,18 +29,12 @@ use Rattle.model_rules.specs.Calls.{queuingChecks, notQueued, isQueued, 
 use Rattle.model_rules.specs.Calls.{steps, interrogated, timeAlone, laidOver, selectiveComes, allCallComes, comes}
 use Rattle.model_rules.specs.History.{Call, queue, take, Afterwards, afterQueuing, afterTaking, unchangedBy, leaving, answer}
 use Rattle.model_rules.specs.Demands.{sentBy}
+use Rattle.model_rules.specs.Strides.{NotFor}
 
 -- what holds of both holds of either
 pub of-pick : {A : Type 0} (P : A → Type 0) (b : Bool) (x y : A) → P x → P y → P (pick b x y)
 of-pick P true x y p q = p
 of-pick P false x y p q = q
-
--- what came is no selective interrogation for an address
-abbrev pub NotFor : ℕ → Up → Type 0
-NotFor address (up.Selective uf pc rr di sd ma r) = laidOver address r ≡ false
-NotFor address (up.AllCall pr ic cl r) = Unit {0}
-NotFor address up.Length = Unit {0}
-NotFor address up.Format = Unit {0}
 
 -- what a frame does after the lapse: nothing, or the steps of a selective interrogation for this aircraft
 pub data Stepped (t : Transponder) : Up → Transponder → Type 0 where

@@ -1,7 +1,8 @@
--- The theorems of the transponder: examples, timers, draws, what a call comes to, who holds, what every history keeps, numbers, what the calls tell,
--- and replies.
-pub mod Agreed
+-- The theorems of the transponder: edges, timers, lapses, draws, what a call comes to, who holds, what every history keeps, numbers, what the calls tell,
+-- replies, and strides of the clock.
+pub mod Edges
 pub mod Timing
+pub mod Lapsing
 pub mod Draws
 pub mod Came
 pub mod Holding
@@ -13,4 +14,5 @@ pub mod Locked
 pub mod Responding
 pub mod Calling
 pub mod Sending
+pub mod Strides
 pub mod Demands

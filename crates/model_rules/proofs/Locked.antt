@@ -20,7 +20,7 @@ use Rattle.model_rules.specs.declared.state.Timer.{Timer}
 use Rattle.model_rules.specs.declared.state.Timers.{Timers}
 use Rattle.model_rules.specs.declared.state.Transponder.{Transponder}
 use Rattle.model_rules.specs.State.{placeOf, idle, waits, started}
-use Rattle.model_rules.specs.Lapse.{isOver, lockAfter, timerAfter, lapse}
+use Rattle.model_rules.specs.Lapse.{lockAfter, timerAfter, lapse}
 use Rattle.model_rules.specs.Lockout.{iis, los, sis, lss, commandOfPC, startedByLOS, startedByLSS, commandOfSD, commanded, lockout, locks, lockedTo}
 use Rattle.model_rules.specs.CommB.{asksToHold, nobodyElse, reserve, closes, closeout}
 use Rattle.model_rules.specs.Calls.{newborn, making, steps}
@@ -28,21 +28,14 @@ use Rattle.model_rules.specs.History.{Aircraft, made, Call, queue, take,
 use Rattle.model_rules.specs.Kept.{Kept}
 use Rattle.model_rules.specs.Story.{lasts}
 use Rattle.model_rules.specs.Seen.{ACode, isCode, told, commandsIn, commands, commandAfter, lastCommand, lockedSince}
-use Rattle.model_rules.proofs.Came.{of-pick, NotFor, Stepped, still, did-steps, Came, refusal, did-queue, did-take, came}
+use Rattle.model_rules.specs.Strides.{NotFor}
+use Rattle.model_rules.proofs.Came.{of-pick, Stepped, still, did-steps, Came, refusal, did-queue, did-take, came}
 use Rattle.model_rules.proofs.Keeping.{ranged-of, kept-lapse, always-kept, stepped-time, lapse-time}
+use Rattle.model_rules.proofs.Lapsing.{lock-twice}
 use Rattle.model_rules.proofs.Telling.{numbers, always-told}
-use Rattle.model_rules.proofs.Timing.{over-or-lasts, over-later, at-place, own-timer, other-timer, si-not-ii, ii-one, si-one, started-length}
+use Rattle.model_rules.proofs.Timing.{over-or-lasts, at-place, own-timer, other-timer, si-not-ii, ii-one, si-one, started-length}
 
 -- ---- a lock at a time
--- what has lapsed by a time has lapsed later
-lapsed-twice : (now then : ℕ) (l : Lock) → then ≤ now → lockAfter now (lockAfter then l) ≡ lockAfter now l
-lapsed-twice now then Never h = refl
-lapsed-twice now then (Since s) h = go (isOver then s) refl
-  where
-    go : (b : Bool) → isOver then s ≡ b → lockAfter now (pick b Never (Since s)) ≡ lockAfter now (Since s)
-    go false e = refl
-    go true e = rw (over-later now then s h e)
-
 locks-since : (now : ℕ) (l : Lock) → locks (lockAfter now l) ≡ lockedSince now l
 locks-since now Never = refl
 locks-since now (Since s) = ap (λ (b : Bool). locks (pick b Never (Since s))) (over-or-lasts now s) ∙ go (lasts now s)
@@ -156,7 +149,7 @@ module _ (a : Aircraft) (c : Interrogator) (ok : ACode c) where
   lapse-agrees : (t : Transponder) (time : ℕ) (l : Lock) → t .time ≤ time → Agree t l → Agree (lapse time t) l
   unfolding lapse timerAfter
   lapse-agrees t time l p h now q =
-      ap (λ (x : Timer). lockAfter now (x .lock)) (at-place c time (t .timers)) ∙ lapsed-twice now time (lockAt c (t .timers)) q ∙ h now (omega (arith, p, q))
+      ap (λ (x : Timer). lockAfter now (x .lock)) (at-place c time (t .timers)) ∙ lock-twice time now q (lockAt c (t .timers)) ∙ h now (omega (arith, p, q))
 
   passed-over : (x : Call) (n : ℕ) (l : Lock) → (n ≡ 0 → ⊥) → commandAfter a c x n l ≡ l
   passed-over (queue m b) n l z = refl

@@ -1,12 +1,12 @@
 -- Theorem of Comm-B: in every history the clock, the messages that wait and who holds are those of the story that the calls tell, and so are all numbers.
-use Prim.Native.Nat.{ℕ, _-_, _≤_}
+use Prim.Native.Nat.{ℕ, _≤_}
 use native.Mathlib.Omega.{arith}
 use mathlib.Core.Path.{_≡_, refl, sym, ap, _∙_, subst}
 use mathlib.Core.Bool.{Bool, true, false, _&&_, not}
 use mathlib.Core.List.{List, [], _∷_, _++_}
 use lib.Dec.{eqb, leb}
 use lib.ListN.{length, drop}
-use borrow.Author.Tests.{eqb-true, ne-eqb, leb-false, lt-ltb}
+use borrow.Author.Tests.{eqb-true, ne-eqb, leb-false}
 use Rattle.lists.specs.Lists.{pick}
 use Rattle.lists.specs.Checks.{checked}
 use Rattle.frames_rules.specs.Bytes.{numberOfBytes}
@@ -17,7 +17,7 @@ use Rattle.model_rules.specs.declared.state.Holder.{Holder}
 use Rattle.model_rules.specs.declared.state.Holder.the-variants.{Nobody, Held}
 use Rattle.model_rules.specs.declared.state.Transponder.{Transponder}
 use Rattle.model_rules.specs.State.{waiting, messagesWith, messagesAfter, withHolder, withMessages}
-use Rattle.model_rules.specs.Lapse.{isOver, holderAfter, lapse}
+use Rattle.model_rules.specs.Lapse.{holderAfter, lapse}
 use Rattle.model_rules.specs.Lockout.{iis, commanded, lockout}
 use Rattle.model_rules.specs.CommB.{asksToHold, nobodyElse, reserve, closes, closeout}
 use Rattle.model_rules.specs.Calls.{newborn, making, steps}
@@ -27,11 +27,13 @@ use Rattle.model_rules.specs.Story.{Told, untold, lasts, holdsAt, heldBy
 use Rattle.model_rules.specs.Story.{withMessage, moved, saysMBS, mayReserve, reservedFor, reserving, closesOut, closed, closing}
 use Rattle.model_rules.specs.Seen.{interrogates, toldAfter, numberOn, told}
 use Rattle.model_rules.specs.Demands.{Holds}
-use Rattle.model_rules.proofs.Came.{NotFor, Stepped, still, did-steps, Came, refusal, did-queue, did-take, came}
+use Rattle.model_rules.specs.Strides.{NotFor}
+use Rattle.model_rules.proofs.Came.{Stepped, still, did-steps, Came, refusal, did-queue, did-take, came}
 use Rattle.model_rules.proofs.Holding.{waiting-after, waiting-with}
 use Rattle.model_rules.proofs.Keeping.{ranged-of, kept-lapse, always-kept}
 use Rattle.model_rules.proofs.Numbers.{number-on}
-use Rattle.model_rules.proofs.Timing.{over-or-lasts, over-later}
+use Rattle.model_rules.proofs.Lapsing.{holder-twice}
+use Rattle.model_rules.proofs.Timing.{over-or-lasts, lasts-now}
 
 -- ---- who holds at a time
 -- what has lapsed is what does not last
@@ -45,17 +47,8 @@ lapsed-is now (Held ii s) = ap (λ (b : Bool). pick b Nobody (Held ii s)) (over-
 
 -- who holds later is told by who holds now
 held-later : (now then : ℕ) (h : Holder) → then ≤ now → holdsAt now (holdsAt then h) ≡ holdsAt now h
-held-later now then Nobody p = refl
-held-later now then (Held ii s) p = go (lasts then s) refl
-  where
-    go : (b : Bool) → lasts then s ≡ b → holdsAt now (pick b (Held ii s) Nobody) ≡ holdsAt now (Held ii s)
-    go true e = refl
-    go false e =
-        let o : isOver now s ≡ true = over-later now then s p (over-or-lasts then s ∙ ap not e) in
-        sym (sym (lapsed-is now (Held ii s)) ∙ (rw o))
-
-lasts-now : (n : ℕ) → lasts n n ≡ true
-lasts-now n = lt-ltb (n - n) 180 (omega arith)
+held-later now then h p =
+    ap (holdsAt now) (sym (lapsed-is then h)) ∙ sym (lapsed-is now (holderAfter then h)) ∙ holder-twice then now p h ∙ lapsed-is now h
 
 -- ---- by the transponder and by the story
 pub record Agree (t : Transponder) (s : Told) : Type 0 where

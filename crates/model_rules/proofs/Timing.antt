@@ -19,7 +19,7 @@ use Rattle.model_rules.specs.Lapse.{lasting, isOver, timerAfter, timersA
 use Rattle.model_rules.specs.Lockout.{iis, los, sis, lss, commandOfPC, startedByLOS, startedByLSS, commandOfSD, commanded, lockout, locks, lockedTo}
 use Rattle.model_rules.specs.Story.{lasts}
 
--- ---- less than 180 tenths: what is over does not last, and what is over at a time is over later
+-- ---- less than 180 tenths: what is over does not last, what is over at a time is over later, and what begins lasts
 pub over-or-lasts : (now s : ℕ) → isOver now s ≡ not (lasts now s)
 over-or-lasts now s = go (isOver now s) refl
   where
@@ -29,6 +29,9 @@ over-or-lasts now s = go (isOver now s) refl
 
 pub over-later : (now then s : ℕ) → then ≤ now → isOver then s ≡ true → isOver now s ≡ true
 over-later now then s h e = let p = leb-true lasting (then - s) e in le-leb lasting (now - s) (omega arith)
+
+pub lasts-now : (n : ℕ) → lasts n n ≡ true
+lasts-now n = lt-ltb (n - n) 180 (omega arith)
 
 -- what stands at a code's place after a lapse is what stood there, lapsed
 pub at-place : (code : Interrogator) (now : ℕ) (t : Timers)

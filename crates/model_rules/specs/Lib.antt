@@ -1,4 +1,4 @@
--- The definitions: the state, the steps of document 01 in their order, histories of calls and what each keeps, and examples at the edges.
+-- The definitions: the state, the steps of document 01 in their order, histories of calls, what each keeps and what is shown of them, and edges of the tables.
 pub mod State
 pub mod Lapse
 pub mod Lockout
@@ -11,5 +11,6 @@ pub mod Numbers
 pub mod Seen
 pub mod Replied
 pub mod Kept
+pub mod Strides
 pub mod Demands
-pub mod Examples
+pub mod Edges

@@ -6,7 +6,7 @@ use Prim.Native.Nat.{ℕ, _+_, _*_, _^_, _<_, _≤_}
 use native.Mathlib.Omega.{arith}
 use lib.Bits.{bitXor, xor-zero-r}
 use lib.ListN.{length}
-use borrow.Author.Tests.{lt-ltb, le-leb}
+use borrow.Author.Tests.{le-leb}
 use Rattle.lists.specs.Answers.{refusedBy}
 use Rattle.lists.proofs.Tests.{and-yes}
 use Rattle.lists.proofs.Checks.{all, end, not-off}
@@ -19,6 +19,7 @@ use Rattle.parity_rules.specs.Overlays.{lowBits, times, overlayOf, uplin
 use Rattle.parity_rules.proofs.Bits.{bits-are, bits-append}
 use Rattle.parity_rules.proofs.Linear.{divide-lt, divide-xor, low-byte}
 use Rattle.parity_rules.proofs.Product.{product-lt}
+use Rattle.parity_rules.proofs.Uplink.{is-given}
 use Rattle.parity_rules.proofs.Unique.{reckoned-one}
 
 -- ---- "short bit i has the syndrome of long bit i+56", once over the length: d bits more before a bit change nothing
@@ -89,8 +90,7 @@ module _ (r : Reckoned) where
   remainder-is msg h e = reckoned-one r (Is (remainderOf (bits msg))) (e ∙ sym (end refusedBy _ all (not-off _ h, tt)))
 
   pub uplink-is : (address : ℕ) → address < 16777216 → reckonedSaid r ≡ uplinkOverlay address → r ≡ Is (overlayOf address)
-  unfolding uplinkOverlay
-  uplink-is address h e = reckoned-one r (Is (overlayOf address)) (e ∙ sym (end refusedBy _ all (not-off _ (lt-ltb address 16777216 h), tt)))
+  uplink-is address h e = reckoned-one r (Is (overlayOf address)) (e ∙ is-given address h)
 
   pub code-is : (cl ic : ℕ) → cl ≤ 7 → ic ≤ 15 → reckonedSaid r ≡ codeOverlay cl ic → r ≡ Is (16 * cl + ic)
   unfolding codeOverlay

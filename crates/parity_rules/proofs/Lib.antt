@@ -8,6 +8,7 @@ pub mod Choosing
 pub mod Written
 pub mod Judged
 pub mod Product
+pub mod Uplink
 pub mod Flipped
 pub mod Found
 pub mod Laws

@@ -10,11 +10,10 @@ use Rattle.parity_rules.specs.Messages.{xorBits, AreBits}
 use Rattle.parity_rules.specs.Correction.{xorOf}
 use Rattle.parity_rules.proofs.Linear.{divide-xor}
 use Rattle.lists.specs.Lists.{All}
+use Rattle.lists.proofs.Held.{all-same}
 
 pub zeros-are : (n : ℕ) → AreBits (replicate n 0)
-unfolding All
-zeros-are zero = tt
-zeros-are (suc n) = (omega arith, zeros-are n)
+zeros-are n = all-same _ n 0 (omega arith)
 
 xor-zeros : (s : List ℕ) → xorBits (replicate (length s) 0) s ≡ s
 unfolding xorBits

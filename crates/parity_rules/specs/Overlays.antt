@@ -1,5 +1,6 @@
 -- Overlays: what is laid over the last 24 bits of a message.
-use Prim.Native.Nat.{ℕ, zero, suc, _+_, _*_, _/_, _%_, _^_}
+use Prim.Native.Nat.{ℕ, zero, suc, _+_, _*_, _/_, _%_, _^_, _<_}
+use mathlib.Core.Path.{_≡_}
 use mathlib.Core.Bool.{_&&_, not}
 use mathlib.Core.List.{List, [], _∷_}
 use lib.Bits.{bitXor}
@@ -37,3 +38,11 @@ codeOverlayChecks cl ic = check 2 (not (leb cl 7 && leb ic 15)) ∷ []
 unfoldable pub codeOverlay : ℕ → ℕ → Answer
 unfolding codeOverlayChecks
 codeOverlay cl ic = checked (codeOverlayChecks cl ic) refusedBy (done ((16 * cl + ic) ∷ []))
+
+-- ---- what is shown of uplink overlays
+-- that of the XOR of two addresses is the XOR of theirs, and no two addresses of 24 bits share one; so of the answers that are given
+pub record Uplinks : Type 0 where
+  pub sum : (a b : ℕ) → overlayOf (bitXor a b) ≡ bitXor (overlayOf a) (overlayOf b)
+  pub one : (a b : ℕ) → a < 0x1000000 → b < 0x1000000 → overlayOf a ≡ overlayOf b → a ≡ b
+  pub sum-given : (a b x y : ℕ) → uplinkOverlay a ≡ done (x ∷ []) → uplinkOverlay b ≡ done (y ∷ []) → uplinkOverlay (bitXor a b) ≡ done (bitXor x y ∷ [])
+  pub one-given : (a b x : ℕ) → uplinkOverlay a ≡ done (x ∷ []) → uplinkOverlay b ≡ done (x ∷ []) → a ≡ b

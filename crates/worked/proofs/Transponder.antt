@@ -12,18 +12,18 @@ use Rattle.frames_rules.specs.Frames.{front, sealed}
 use Rattle.frames_rules.specs.Reading.{readAs, surveillanceRead}
 use Rattle.frames_rules.specs.Interrogations.{upOf}
 use Rattle.frames_rules.specs.Shared.{codeFor, drawn}
 use Rattle.model_rules.specs.State.{started, messagesWith, messagesAfter}
 use Rattle.model_rules.specs.Lapse.{timerAfter, timersAfter, lapse}
 use Rattle.model_rules.specs.Lockout.{startedByLOS, startedByLSS, commandOfSD, commanded, lockout, lockedTo}
 use Rattle.model_rules.specs.CommB.{reserve, closeout}
 use Rattle.model_rules.specs.Replies.{sending, respond, drawsBelow, answers, answerAllCall}
 use Rattle.model_rules.specs.Calls.{newborn, makeRanged, making, queuing, steps, interrogated, laidOver, selectiveComes, allCallComes, comes, taking}
 use Rattle.model_rules.specs.Numbers.{checks}
 use Rattle.model_rules.specs.History.{after}
 use Rattle.model_rules.specs.Story.{reserving, closing}
 use Rattle.model_rules.specs.Seen.{told, lastCommand}
 use Rattle.model_rules.specs.Replied.{sentTo}
-use Rattle.model_rules.specs.Examples.{listing}
+use Rattle.worked.specs.Transponder.{listing}
 
 -- the one claim
 pub model-agrees : Agrees listing

@@ -1,4 +1,4 @@
--- A run with a record of every kind, computed: replies short and long, one of them corrected and one with the delay −1, reports of what was afterReply,
+-- A run with a record of every kind, computed: replies short and long, one of them corrected and one with the delay −1, reports of what was heard,
 -- a move and a removal. Messages were sealed apart from these definitions, over Annex 10's generator; starts are reckoned by hand.
 use Prim.Native.Nat.{ℕ}
 use mathlib.Core.Path.{_≡_, refl}

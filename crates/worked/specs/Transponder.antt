@@ -269,6 +269,6 @@ drawings =
     ∷ drawing 21 16 (21 ∷ 0x092D ∷ [])
     ∷ []
 
--- ---- all of them; proofs/Agreed.antt has the one claim
+-- ---- all of them; proofs/Transponder.antt has the one claim
 abbrev pub listing : List Row
 listing = lockouts ++ (draws ++ (messages ++ (closeouts ++ (makings ++ (refusals ++ drawings)))))

@@ -1,0 +1,2 @@
+-- The examples of the transponder at its edges, as one listing.
+pub mod Transponder
