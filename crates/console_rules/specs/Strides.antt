@@ -33,7 +33,6 @@ StrideLines b (l ∷ ls) = StrideLine b l × StrideLines (lineLeaves b l) ls
 -- after any lines since the console was begun that have made an aircraft: two crews that bring its clock to one time by such lines, taken and refused ones,
 -- however many, are printed the same from then on, whatever they type
 pub record StridesPrinted (before : List (List ℕ)) : Type 0 where
-  pub alike : (fs gs rest : List (List ℕ)) → benchAfter begun before .aircraft .made ≡ true
-      → StrideLines (benchAfter begun before) fs → StrideLines (benchAfter begun before) gs
-      → clockOf (benchAfter (benchAfter begun before) fs) ≡ clockOf (benchAfter (benchAfter begun before) gs)
-      → linesText (benchAfter (benchAfter begun before) fs) rest ≡ linesText (benchAfter (benchAfter begun before) gs) rest
+  pub alike : (fs gs rest : List (List ℕ)) → let b = benchAfter begun before in
+      b .aircraft .made ≡ true → StrideLines b fs → StrideLines b gs → clockOf (benchAfter b fs) ≡ clockOf (benchAfter b gs)
+      → linesText (benchAfter b fs) rest ≡ linesText (benchAfter b gs) rest

@@ -26,7 +26,8 @@ use Rattle.model_rules.specs.CommB.{asksToHold, nobodyElse, reserve, clo
 use Rattle.model_rules.specs.Calls.{newborn, makingChecks, notMade, making, queuingChecks, notQueued, queuing}
 use Rattle.model_rules.specs.Calls.{takingChecks, notTaken, isTaken, comes, taking, steps}
 use Rattle.model_rules.specs.History.{Aircraft, made, Call, queue, take, Afterwards, answer, after}
-use Rattle.model_rules.specs.Strides.{Rising, lastOf, lapses, LastsAt, LockLastsAt, TimerLastsAt, HolderLastsAt, Current, NotFor, Stride, OneLapse, Strides}
+use Rattle.model_rules.specs.Strides.{Rising, lastOf, lapses, LastsAt, LockLastsAt, TimerLastsAt, HolderLastsAt, Current}
+use Rattle.model_rules.specs.Strides.{NotFor, Stride, OneLapse, Strides}
 use Rattle.model_rules.proofs.Timing.{lasts-now}
 use Rattle.model_rules.proofs.Lapsing.{lapse-twice, lapses-rising, lapse-still}
 use Rattle.model_rules.specs.Seen.{told}

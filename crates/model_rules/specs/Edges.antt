@@ -1,4 +1,4 @@
--- Edges that no theorem tells, as one listing: what the definitions give beside what document 01 says, worked by hand. The crate `worked` has frames and replies.
+-- Edges that no theorem tells, as one listing: what the definitions give beside what document 01 says, worked by hand. Replies are in crate `worked`.
 use Prim.Native.Nat.{ℕ}
 use mathlib.Core.List.{List, [], _∷_, _++_}
 use lib.ListN.{replicate}
