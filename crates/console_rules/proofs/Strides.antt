@@ -84,7 +84,7 @@ with-its-own : (b : Bench) → b .aircraft .made ≡ true → b ≡ benchWith b 
 with-its-own b m =
     ap (λ (x : Bool). record { aircraft = record { made = x; transponder = b .aircraft .transponder }; station = b .station; over = b .over }) m
 
--- the bench of which this is shown, and that its clock has not gone back
+-- c is b with the aircraft that one lapse to c's clock leaves, and that clock is not before b's
 record Strode (b c : Bench) : Type 0 where
   forward : clockOf b ≤ clockOf c
   bench : c ≡ benchWith b (lapse (clockOf c) (b .aircraft .transponder))

@@ -1,4 +1,5 @@
--- The theorems on runs, on the calls that records spell, on what a reader finds and on each record's lines. Worked streams are in crate `worked`.
+-- The theorems on runs, on the calls that records spell, on what a reader finds and on each record's lines; and worked lines.
+-- Whole streams are worked in crate `worked`.
 pub mod Spaced
 pub mod Runs
 pub mod Spelled
@@ -7,4 +8,5 @@ pub mod Reader
 pub mod Printed
 pub mod Stands
 pub mod ReadOff
+mod Examples
 pub mod Places

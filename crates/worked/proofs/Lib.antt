@@ -1,5 +1,5 @@
--- The claims: the transponder's listing agrees, case P1, a stream with a record of every kind, and lines of streams.
+-- The claims: the transponder's listing agrees, case P1, a stream with a record of every kind, and streams that end at once.
 pub mod Transponder
 mod CaseP1
 mod EveryKind
-mod Lines
+mod Ends

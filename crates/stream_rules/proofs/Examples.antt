@@ -1,17 +1,13 @@
--- Lines of document 01, computed: the first plan line of case P1, a report of nothing heard, and the edges of the rules.
+-- Lines of document 01, computed: the first plan line of case P1, reports of nothing heard and of a zero that was heard, and a delay of −1.
 use mathlib.Core.Path.{_≡_, refl}
-use mathlib.Core.List.{[], _∷_}
 use lib.IntN.{negsuc}
-use Rattle.lists.specs.Checks.{checked}
 use Rattle.text_rules.specs.Put.{decimalIn, decimal}
 use Rattle.text_rules.specs.Signed.{signedDecimal}
 use Rattle.text_rules.specs.Plain.{plain}
 use Rattle.planner_rules.specs.declared.request.Ask.{Ask}
 use Rattle.planner_rules.specs.Exchange.{sentFor, replyFor, entryAt}
-use Rattle.reader_rules.specs.Records.{bodyLength, recordAt}
 use Rattle.station_rules.specs.declared.state.Value.the-variants.{Never, Heard}
 use Rattle.stream_rules.specs.Lines.{line, answerLine, replyLine, entryLine, valueWord, ageWord, reportLine}
-use Rattle.stream_rules.specs.Run.{obeyedAt, goesOn, textFrom, transcript}
 
 -- case P1: unit 0 asks address 1 with UF 20 and RR 16; near 2000, far 2010
 abbrev asked : Ask
@@ -44,19 +40,7 @@ heard-zero : reportLine (Heard 0 0) Never ≡ plain "0 0 - -\n"
 unfolding reportLine line valueWord ageWord decimal decimalIn
 heard-zero = refl
 
--- ---- streams that end at once
-
--- empty input prints nothing
-no-record : transcript [] ≡ []
-unfolding transcript textFrom checked recordAt obeyedAt goesOn
-no-record = refl
-
--- an unknown kind, also as the last byte
-unknown-kind : transcript (200 ∷ []) ≡ plain "1 200 16\n"
-unfolding transcript textFrom checked recordAt bodyLength obeyedAt goesOn answerLine line decimal decimalIn
-unknown-kind = refl
-
--- a new target of which one byte is missing
-cut-record : transcript (2 ∷ 0 ∷ 0 ∷ 1 ∷ 0 ∷ 0 ∷ 0 ∷ []) ≡ plain "1 2 17\n"
-unfolding transcript textFrom checked recordAt bodyLength obeyedAt goesOn answerLine line decimal decimalIn
-cut-record = refl
+-- value before age, AC before ID
+heard-both : reportLine (Heard 5776 2) (Heard 2349 0) ≡ plain "5776 2 2349 0\n"
+unfolding reportLine line valueWord ageWord decimal decimalIn
+heard-both = refl
