@@ -1,6 +1,6 @@
 // Times the proved library against the same rules written anew in Rust, both built for release, in one run.
 // Every input is first answered by both, and a difference stops the run. Built with `--cfg before` (bench/against) it times
-// the library of an earlier revision instead, whose names begin with `before_`.
+// the library of an earlier revision instead, whose names begin with `before_`; one from before the places reads the first eight words alone.
 use std::hint::black_box;
 use std::time::Instant;
 
@@ -23,6 +23,8 @@ macro_rules! library {
                     limit: u32,
                     out: *mut u8,
                     out_len: usize,
+                    places: *mut u8,
+                    places_len: usize,
                 ) -> u64;
             }
 
@@ -30,9 +32,10 @@ macro_rules! library {
                 unsafe { reckon(msg.as_ptr(), msg.len()) }
             }
 
-            pub fn correct(msg: &[u8], marks: &[u8], overlay: u32, limit: u32, out: &mut [u8]) -> u64 {
-                let (n, m, o) = (msg.len(), marks.len(), out.len());
-                unsafe { mend(msg.as_ptr(), n, marks.as_ptr(), m, overlay, limit, out.as_mut_ptr(), o) }
+            pub fn correct(msg: &[u8], marks: &[u8], overlay: u32, limit: u32, out: &mut [u8], places: &mut [u8]) -> u64 {
+                let (n, m, o, p) = (msg.len(), marks.len(), out.len(), places.len());
+                let (out, places) = (out.as_mut_ptr(), places.as_mut_ptr());
+                unsafe { mend(msg.as_ptr(), n, marks.as_ptr(), m, overlay, limit, out, o, places, p) }
             }
         }
     };
@@ -42,6 +45,9 @@ library!(proved, "jerungkal_remainder", "jerungkal_correct");
 
 #[cfg(before)]
 library!(before, "before_jerungkal_remainder", "before_jerungkal_correct");
+
+// A correction: message, marks, overlay, limit, and the buffers for the output and the places.
+type Correct = fn(&[u8], &[u8], u32, u32, &mut [u8], &mut [u8]) -> u64;
 
 // What the library is timed against.
 #[cfg(before)]
@@ -107,9 +113,9 @@ mod plain {
     }
 
     #[inline(never)]
-    pub fn correct(msg: &[u8], marks: &[u8], overlay: u32, limit: u32, out: &mut [u8]) -> u64 {
+    pub fn correct(msg: &[u8], marks: &[u8], overlay: u32, limit: u32, out: &mut [u8], places: &mut [u8]) -> u64 {
         let n = msg.len();
-        if !(n == 7 || n == 14) || marks.len() != n || out.len() != n {
+        if !(n == 7 || n == 14) || marks.len() != n || out.len() != n || places.len() != n {
             return 1 << 32;
         }
         if overlay > 0xFF_FFFF || limit > 12 {
@@ -131,15 +137,15 @@ mod plain {
         let want = bytes(msg) ^ overlay;
         match count(&syns, many, want) {
             0 => 12 << 32,
-            1 => rebuild(msg, marks, &syns, many, want, out),
+            1 => rebuild(msg, marks, &syns, (many, want), out, places),
             _ => 13 << 32,
         }
     }
 
     // The one match, by asking at each marked bit whether it is taken.
-    fn rebuild(msg: &[u8], marks: &[u8], syns: &[u32; 12], many: usize, want: u32, out: &mut [u8]) -> u64 {
-        let (mut left, mut want, mut flips) = (many, want, 0u64);
-        for (j, b) in out.iter_mut().enumerate() {
+    fn rebuild(msg: &[u8], marks: &[u8], syns: &[u32; 12], sought: (usize, u32), out: &mut [u8], places: &mut [u8]) -> u64 {
+        let ((mut left, mut want), mut flips) = (sought, 0u64);
+        for (j, (b, p)) in out.iter_mut().zip(places).enumerate() {
             let mut mask = 0u8;
             for t in 0..8 {
                 mask <<= 1;
@@ -154,6 +160,7 @@ mod plain {
                 }
             }
             *b = msg[j] ^ mask;
+            *p = mask;
         }
         flips
     }
@@ -226,16 +233,16 @@ fn agree(source: &mut Bytes) {
         let n = [7, 14][round % 2];
         let c = case(source, n, n, round % 14);
         let limit = (round % 15) as u32;
-        let answered = |f: fn(&[u8], &[u8], u32, u32, &mut [u8]) -> u64| {
-            let mut out = vec![1u8; c.msg.len()];
-            (f(&c.msg, &c.marks, c.overlay, limit, &mut out), out)
+        let answered = |f: Correct| {
+            let (mut out, mut places) = (vec![1u8; n], vec![2u8; n]);
+            let number = f(&c.msg, &c.marks, c.overlay, limit, &mut out, &mut places);
+            ((number, out), places)
         };
         for remainder in [plain::remainder, plain::bit_loop, other::remainder] {
             assert_eq!(proved::remainder(&c.msg), remainder(&c.msg));
         }
-        for correct in [plain::correct, other::correct] {
-            assert_eq!(answered(proved::correct), answered(correct));
-        }
+        assert_eq!(answered(proved::correct), answered(plain::correct));
+        assert_eq!(answered(proved::correct).0, answered(other::correct).0);
     }
 }
 
@@ -263,12 +270,12 @@ fn main() {
     for n in [7, 14] {
         for (marked, first) in [(0, n), (5, n), (5, 1), (12, n)] {
             let cases: Vec<Case> = (0..16).map(|_| case(&mut source, n, first, marked)).collect();
-            let run = |f: fn(&[u8], &[u8], u32, u32, &mut [u8]) -> u64| {
+            let run = |f: Correct| {
                 let cases = &cases;
-                let mut out = vec![0u8; n];
+                let (mut out, mut places) = (vec![0u8; n], vec![0u8; n]);
                 move |i: usize| {
                     let c = &cases[i % 16];
-                    black_box(f(black_box(&c.msg), black_box(&c.marks), black_box(c.overlay), 12, &mut out));
+                    black_box(f(black_box(&c.msg), black_box(&c.marks), black_box(c.overlay), 12, &mut out, &mut places));
                 }
             };
             let calls = [4000, 2000, 100][(marked + 4) / 8];

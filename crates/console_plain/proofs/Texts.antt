@@ -145,6 +145,9 @@ module _ {k : ℕ} {ws : List (List ℕ)} {l m : List ℕ} {n : ℕ} (h : BytesA
   pub bytes-count : n ≡ length (take n m)
   bytes-count = simp length-take (omega (arith, bytes-few, same))
 
+  pub lent-few : length (take n m) ≤ 32
+  lent-few = omega (arith, bytes-few, bytes-count)
+
   pub bytes-zeros : take n (replicate {A = ℕ} 32 0) ≡ replicate (length (take n m)) 0
   bytes-zeros = front-zeros n bytes-few ∙ ap (λ (i : ℕ). replicate i 0) bytes-count
 
@@ -154,4 +157,4 @@ module _ {k : ℕ} {ws : List (List ℕ)} {l m : List ℕ} {n : ℕ} (h : BytesA
   pub bytes-are : take n m ≡ bytesAt k ws
   bytes-are = rw (h .answer, h .buffer) (take-laid (bytesAt k ws) l (omega (arith, bytes-short k ws)))
 
-pub ruleset lent = (bytes-few, bytes-room, bytes-count, bytes-zeros, zeros-lent, bytes-are)
+pub ruleset lent = (bytes-few, bytes-room, bytes-count, lent-few, bytes-zeros, zeros-lent, bytes-are)

@@ -5,7 +5,7 @@ use mathlib.Core.List.{[], _∷_}
 use Rattle.lists.specs.Lists.{filter}
 use Rattle.lists.specs.Checks.{checked}
 use Rattle.text_rules.specs.Plain.{plain}
-use Rattle.text_rules.specs.Put.{decimalIn, decimal}
+use Rattle.text_rules.specs.Put.{decimalIn, decimal, numbersBehind}
 use Rattle.text_rules.specs.Signed.{signedDecimal, upward, downward, integerOf}
 use Rattle.text_rules.specs.Line.{blank, grown, parts, full, wordsOf, sameAs}
 use Rattle.text_rules.specs.Number.{between, isDigit, allDigits, valueAfter, numberIn}
@@ -14,6 +14,7 @@ use Rattle.text_rules.specs.Hex.{hexDigit, hexIn, hexOf, hexValue, allHex, pair
 use Rattle.parity_rules.specs.Messages.{bits}
 use Rattle.parity_rules.specs.Division.{shiftIn, divide, remainderOf, remainderAnswer, syndrome}
 use Rattle.parity_rules.specs.Overlays.{lowBits, times, overlayOf, uplinkOverlay}
+use Rattle.parity_rules.specs.Places.{placesFrom}
 use Rattle.parity_rules.specs.Correction.{sizeOf, subsets, xorOf, matching, flipped, correction}
 use Rattle.frames_rules.specs.Fields.{headOf, midOf, selectiveHead, allCallHead}
 use Rattle.frames_rules.specs.Frames.{front, sealed}
@@ -69,14 +70,16 @@ parity-lines :
     × Prints "overlay 8388608" "0 FFFA04\n"
     × Prints "overlay 0000000001" "0 000001\n"
     × Prints "overlay 16777216" "2\n"
-    × Prints "correct 8000000200000000000000000002 8000000200000000000000000002 0 5" "0 0000000000000000000000000000 3\n"
+    × Prints "correct 8000000200000000000000000002 8000000200000000000000000002 0 5" "0 0000000000000000000000000000 3 1 31 111\n"
     × Prints "correct 8000000200000000000000000002 8000000200000000000000000000 0 5" "12\n"
     × Prints "correct 8000000200000000000000000002 8000000200000000000000000002 0 2" "11\n"
-    × Prints "correct 0000000000000000000000000000 0000000000000000000000000002 2 5" "0 0000000000000000000000000002 1\n"
+    × Prints "correct 0000000000000000000000000000 0000000000000000000000000002 2 5" "0 0000000000000000000000000002 1 111\n"
+    × Prints "correct 0000000000000000000000000000 8000000200000000000000000002 2 5" "0 0000000000000000000000000002 1 111\n"
+    × Prints "correct 0000000000000000000000000000 8000000200000000000000000002 0 5" "0 0000000000000000000000000000 0\n"
 unfolding Reading filter checked remainderAnswer uplinkOverlay answerText doneText refusalText decimal decimalIn hexIn hexOf hexDigit bits shiftIn divide
     remainderOf lowBits times overlayOf syndrome sizeOf subsets xorOf matching flipped correction reckonedText correctedText remainderText overlayText
-    fixedText correctText
-parity-lines = (refl, refl, refl, refl, refl, refl, refl, refl, refl, refl, refl)
+    fixedText correctText placesFrom numbersBehind
+parity-lines = (refl, refl, refl, refl, refl, refl, refl, refl, refl, refl, refl, refl, refl)
 
 -- ---- interrogations built: the fields by their bit numbers, the address over the uplink; 2 for another UF, 1 for an MA not of seven bytes
 building-lines :

@@ -13,9 +13,10 @@ use Rattle.lists.specs.Lists.{pick, All}
 use Rattle.lists.specs.Checks.{check, checked}
 use Rattle.lists.specs.Answers.{Answer, done, refusal, refusedBy}
 use Rattle.lists.proofs.Checks.{whichever}
-use Rattle.text_rules.specs.Put.{decimal}
+use Rattle.text_rules.specs.Put.{decimal, numbersBehind}
 use Rattle.text_rules.specs.Line.{sameAs}
-use Rattle.text_rules.specs.Hex.{bytesIn}
+use Rattle.text_rules.specs.Hex.{bytesIn, hexOf}
+use Rattle.text_rules.specs.Plain.{plain}
 use Rattle.text_rules.proofs.Decimal.{decimal-length}
 use Rattle.text_rules.proofs.HexMade.{hex-length, hex-of-length}
 use Rattle.text_rules.proofs.HexRead.{bytes-fit}
@@ -24,7 +25,10 @@ use Rattle.altitude_rules.specs.WayBack.{raised, wayBackChecks, wayBack}
 use Rattle.altitude_rules.proofs.WayBack.{fits}
 use Rattle.console_rules.specs.FeetLines as feet-lines
 use Rattle.console_rules.proofs.FeetRun.{answer-short}
-use Rattle.parity_rules.specs.Answers.{Correction}
+use Rattle.parity_rules.specs.Answers.{Buffers, Correction}
+use Rattle.parity_rules.specs.Places.{placesIn, placesTold}
+use Rattle.parity_rules.proofs.Outcomes.{flips-told}
+use Rattle.stream_rules.proofs.Placed.{places-short}
 use Rattle.parity_rules.specs.Division.{remainderChecks, remainderAnswer}
 use Rattle.parity_rules.specs.Overlays.{uplinkOverlayChecks, uplinkOverlay}
 use Rattle.parity_rules.specs.Correction.{correction}
@@ -37,7 +41,7 @@ use Rattle.frames_rules.specs.Building.{selective, allCall, buildingChecks, bui
 use Rattle.frames_rules.specs.Codes.{codeOfChecks, codeOf}
 use Rattle.frames_rules.specs.Reading.{formatOf, readChecks, readAs, allCallRead, selectiveRead, allCallReplyRead, surveillanceRead, mbPart}
 use Rattle.console_rules.specs.Texts.{word, theBytes, bytesAt, doneText, refusalText, answerText}
-use Rattle.console_rules.specs.Parity.{reckonedText, correctedText, remainderText, overlayText, fixedText, correctText}
+use Rattle.console_rules.specs.Parity.{reckonedText, correctedText, remainderText, overlayText, lentFor, fixedText, correctText}
 use Rattle.console_rules.specs.Building.{builtText, selectiveText, buildText, allCallText}
 use Rattle.console_rules.specs.Frames.{numberText, numbersText, fieldsText, endText, valuesText, readText, interrogationText, replyText, upText}
 use Rattle.console_rules.specs.Frames.{downText, codeWord, whoseText, codeText}
@@ -84,17 +88,35 @@ overlay-number : (address : ℕ) → uplinkOverlay address .number < 100
 unfolding All uplinkOverlay
 overlay-number address = whichever (λ (a : Answer). a .number < 100) (uplinkOverlayChecks address) refusedBy _ (omega arith, tt) (λ p. omega arith)
 
-corrected-fits : (o : Correction) (size : ℕ) → size ≤ 32 → Small size o → length (correctedText o) ≤ brief
-unfolding correctedText
-corrected-fits o size k s =
-    answer-fits _ _ (omega (arith, s .number))
-    (simp (length-append, hex-of-length) (omega (arith, s .output, decimal-length 1 (o .flips) (omega (arith, s .flips)))))
+-- a correction: at most 12 places of four bytes behind the message and the flips
+corrected-fits : (o : Correction) (lent : Buffers) → length (lent .output) ≤ 32 → length (lent .places) ≤ 32 → Small lent o
+    → o .flips ≡ length (placesTold o) → length (correctedText o) ≤ brief
+unfolding correctedText answerText doneText refusalText
+corrected-fits o lent h k s f = go (eqb (o .number) 0) refl
+  where
+    go : (t : Bool) → eqb (o .number) 0 ≡ t
+        → length (pick t (doneText (hexOf (o .buffers .output) ++ (plain " " ++ (decimal (o .flips) ++ numbersBehind (placesIn (o .buffers .places))))))
+        (refusalText (o .number))) ≤ brief
+    go true e =
+        let c : o .flips ≡ length (placesIn (o .buffers .places)) = rw e at f in
+        simp (length-append, hex-of-length)
+        (omega (
+          arith,
+          s .output,
+          h,
+          decimal-length 1 (o .flips) (omega (arith, s .flips)),
+          c,
+          s .flips,
+          places-short (o .buffers .places) (omega (arith, s .places, k)),
+        ))
+    go false e = simp length-append (omega (arith, decimal-length 1 (o .number) (omega (arith, s .number))))
 
 fixed-fits : (msg marks : List ℕ) (overlay limit : ℕ) → length msg ≤ 32 → length (fixedText msg marks overlay limit) ≤ brief
 unfolding fixedText
 fixed-fits msg marks overlay limit h =
-    corrected-fits (correction msg marks overlay limit (replicate (length msg) 0)) (length (replicate {A = ℕ} (length msg) 0))
-    (omega (arith, length-replicate {A = ℕ} (length msg) 0)) (outcome-small msg marks overlay limit (replicate (length msg) 0))
+    let zeros = length-replicate {A = ℕ} (length msg) 0 in
+    corrected-fits (correction msg marks overlay limit (lentFor msg)) (lentFor msg) (omega (arith, zeros)) (omega (arith, zeros))
+    (outcome-small msg marks overlay limit (lentFor msg)) (flips-told msg marks overlay limit (lentFor msg))
 
 -- ---- a frame that is read
 

@@ -1,16 +1,15 @@
 -- Runs of the console with the station beside what they print, computed: the night of the stream's pages typed line by line, and each refusal of a line.
-use Prim.Native.Nat.{ℕ}
-use Prim.Native.String.{String}
-use mathlib.Core.Path.{_≡_, refl}
-use mathlib.Core.List.{List, [], _∷_, _++_}
+use mathlib.Core.Path.{refl}
+use mathlib.Core.List.{List, [], _∷_}
 use Rattle.lists.specs.Checks.{checked}
 use Rattle.lists.specs.Lists.{every, countOf, indexOf, filter, over, total}
-use Rattle.text_rules.specs.Put.{decimalIn, decimal}
+use Rattle.text_rules.specs.Put.{decimalIn, decimal, numbersBehind}
 use Rattle.text_rules.specs.Signed.{signedDecimal}
 use Rattle.text_rules.specs.Line.{newline, linesOf}
 use Rattle.text_rules.specs.Hex.{hexDigit, hexIn, hexOf}
 use Rattle.parity_rules.specs.Messages.{bits, xorBits}
 use Rattle.parity_rules.specs.Division.{shiftIn, divide, remainderOf, syndrome}
+use Rattle.parity_rules.specs.Places.{placesFrom}
 use Rattle.parity_rules.specs.Correction.{sizeOf, subsets, xorOf, matching, flipped}
 use Rattle.planner_rules.specs.Exchange.{sentFor, replyFor, apart, clear}
 use Rattle.planner_rules.specs.Fits.{clearOf, fits, first, place}
@@ -44,7 +43,7 @@ night =
     ∷ says "request 0 0x4840D6 4 0 0 0 0 00000000000000" "0"
     ∷ says "request 1 0x40621D 21 0 16 0 0 00000000000000" "0"
     ∷ says "plan 100000" "0\n0 0 4735190 0 2530 2798\n1 1 4219421 79 1609 2095"
-    ∷ says "reply 0 102535 200016940B3591 00000004000000" "0 1 2004 200016900B3591"
+    ∷ says "reply 0 102535 200016940B3591 00000004000000" "0 1 2004 30 200016900B3591"
     ∷ says "reply 1 101617 A800150A20304050607080182AE3 0000000000000000000000000000" "10"
     ∷ says "report 0x4840D6" "0 5776 0 - -"
     ∷ says "entries" "0 2 100000\n0 0 4735190 0 2530 2798 answered\n1 1 4219421 79 1609 2095 open"
@@ -117,5 +116,5 @@ unfolding Reading checked consoleText linesText linesOf newline answerText doneT
     expected valueIn startOf inWindow targetsHeard afterReply settled replied line entryLine entryLines valueWord ageWord reportLine outcomeSpoken
     allFit whereHeld numbersFrom setupSpoken targetSpoken moveSpoken removeSpoken requestSpoken plannedSpoken planSpoken repliedSpoken replySpoken
     reportText reportSpoken newborn makeRanged making madeSaid modelSaid holderText timerText lockText locksText stateText stateSaid reasonText
-    targetLine targetLines targetsText targetsSpoken statusWord statusLine statusLines entriesText entriesSpoken
+    targetLine targetLines targetsText targetsSpoken statusWord statusLine statusLines entriesText entriesSpoken placesFrom numbersBehind
 station-runs-printed = (refl, refl, refl, refl)

@@ -3,13 +3,16 @@ use Prim.Native.Nat.{ℕ, zero, suc, _^_, _≤_}
 use mathlib.Core.Path.{_≡_}
 use mathlib.Core.Bool.{Bool, true, _&&_}
 use mathlib.Core.List.{List, [], _∷_, _++_}
+use lib.IntN.{ℤ}
 use lib.Dec.{eqb, ltb}
 use lib.ListN.{length, replicate}
 use Rattle.lists.specs.Lists.{pick}
-use Rattle.text_rules.specs.Put.{Put, decimal}
+use Rattle.text_rules.specs.Put.{Put, decimal, numbersBehind}
 use Rattle.text_rules.specs.Plain.{plain}
 use Rattle.text_rules.specs.Hex.{hexOf}
 use Rattle.text_rules.specs.Signed.{signedDecimal}
+use Rattle.parity_rules.specs.Answers.{Buffers}
+use Rattle.parity_rules.specs.Places.{placesIn}
 use Rattle.frames_rules.specs.Bytes.{numberOfBytes}
 use Rattle.planner_rules.specs.declared.request.Request.{Request}
 use Rattle.planner_rules.specs.declared.setup.Setup.{Setup}
@@ -126,17 +129,21 @@ plannedSpoken s = speaking (plain "0\n" ++ entryLines 0 (entriesOf (s .plan))) s
 unfoldable pub planSpoken : Station → List (List ℕ) → Spoken
 planSpoken s ws = plannedSpoken (nextPlan s (numberAt 1 ws))
 
--- ---- `reply ENTRY TAG HEX MARKS`: the flips, the delay and the corrected message, whose buffer is lent as long as the message
+-- ---- `reply ENTRY TAG HEX MARKS`: the flips, the delay, the places and the corrected message; the buffers are lent as long as the message
+abbrev pub takenText : ℕ → ℤ → Buffers → List ℕ
+takenText flips delay b =
+    decimal flips ++ (plain " " ++ (signedDecimal delay ++ (numbersBehind (placesIn (b .places)) ++ (plain " " ++ hexOf (b .output)))))
+
 unfoldable pub repliedSpoken : Replied → Spoken
 repliedSpoken r =
     speaking
-    (answerText (r .number) (decimal (r .flips) ++ (plain " " ++ (signedDecimal (r .delay) ++ (plain " " ++ hexOf (r .output))))))
+    (answerText (r .number) (takenText (r .flips) (r .delay) (r .buffers)))
     (r .station)
 
 unfoldable pub replySpoken : Station → List (List ℕ) → Spoken
 replySpoken s ws =
-    repliedSpoken
-    (replied s (received (numberAt 1 ws) (numberAt 2 ws) (bytesAt 3 ws) (bytesAt 4 ws) (replicate (length (bytesAt 3 ws)) 0)))
+    let zeros = replicate {A = ℕ} (length (bytesAt 3 ws)) 0 in
+    repliedSpoken (replied s (received (numberAt 1 ws) (numberAt 2 ws) (bytesAt 3 ws) (bytesAt 4 ws) zeros zeros))
 
 -- ---- `report ADDRESS`: 0 and the line of the stream
 unfoldable pub reportText : Report → List ℕ

@@ -1,18 +1,18 @@
 -- What the lines say that lay their text in parts: a report, a plan and a reply.
-use Prim.Native.Nat.{ℕ, _+_, _≤_, _<_}
+use Prim.Native.Nat.{ℕ, _≤_, _<_}
 use native.Mathlib.Omega.{arith}
 use mathlib.Core.Path.{_≡_}
-use mathlib.Core.List.{List, _++_}
+use mathlib.Core.List.{List}
 use lib.ListN.{length, take, replicate, length-append, length-replicate}
 use borrow.Author.Tests.{eq-eqb, ne-eqb}
 use mir.Syntax.{w32}
 use mir.Val.{SFits}
-use Rattle.text_rules.specs.Put.{Put, decimal}
+use Rattle.text_rules.specs.Put.{Put}
 use Rattle.text_rules.specs.Plain.{plain}
-use Rattle.text_rules.specs.Hex.{hexOf}
-use Rattle.text_rules.specs.Signed.{signedDecimal}
 use Rattle.text_rules.proofs.Decimal.{decimal-fits}
 use Rattle.text_rules.proofs.HexMade.{hex-of-length}
+use Rattle.parity_rules.specs.Answers.{Buffers}
+use Rattle.parity_rules.specs.Places.{placesIn}
 use Rattle.station_rules.specs.declared.state.Station.{Station}
 use Rattle.station_rules.specs.declared.state.Report.{Report}
 use Rattle.station_rules.specs.declared.state.Reply.{Reply}
@@ -21,11 +21,13 @@ use Rattle.station_rules.specs.Calls.{reported}
 use Rattle.station_rules.specs.Planning.{nextPlan}
 use Rattle.station_rules.specs.Replies.{Replied, told, received, replied}
 use Rattle.stream_rules.specs.Lines.{entryLines, reportLine}
+use Rattle.stream_rules.proofs.Placed.{places-short}
 use Rattle.stream.specs.Calls.{Within}
 use Rattle.stream.proofs.Lengths.{within, within-then, signed-short}
 use Rattle.console_rules.specs.declared.state.Served.{Served}
 use Rattle.console_rules.specs.Texts.{numberAt, bytesAt, BytesAt, doneText, answerText, room}
-use Rattle.console_rules.specs.Station.{Spoke, speaking, numberSpoken, reportText, reportSpoken, plannedSpoken, planSpoken, repliedSpoken, replySpoken}
+use Rattle.console_rules.specs.Station.{Spoke, speaking, numberSpoken, reportText, reportSpoken, plannedSpoken, planSpoken}
+use Rattle.console_rules.specs.Station.{takenText, repliedSpoken, replySpoken}
 use Rattle.console_plain.proofs.Texts.{bytes-few, bytes-count}
 use Rattle.console_station.proofs.Texts.{speaks}
 
@@ -55,31 +57,32 @@ unfolding planSpoken plannedSpoken
 plan-said s ws e h p w = rw (← e, ← h) (speaks-within (within-then (within 2 (omega arith) p) w) (omega arith))
 
 -- ---- `search replies`: a reply, refused and taken
-module _ (r : Reply) (c : List ℕ) where
+module _ (r : Reply) (b : Buffers) where
   pub reply-refused : {l m : List ℕ} {d : Served} → (r .number ≡ 0 → ⊥) → Spoke (numberSpoken (r .number) (r .station)) l m d
-      → Spoke (repliedSpoken (told r c)) l m d
+      → Spoke (repliedSpoken (told r b)) l m d
   unfolding repliedSpoken answerText
   reply-refused n p = rw (ne-eqb (r .number) 0 n) p
 
-  pub reply-taken : {l m : List ℕ} {size : ℕ} → r .number ≡ 0 → length c ≤ 32 → r .flips < 4294967296 → SFits w32 (r .delay)
-      → Put (doneText (decimal (r .flips) ++ (plain " " ++ (signedDecimal (r .delay) ++ (plain " " ++ hexOf c))))) 0 l m size
-      → Spoke (repliedSpoken (told r c)) l m (record { size = size; station = r .station })
+  pub reply-taken : {l m : List ℕ} {size : ℕ} → r .number ≡ 0 → length (b .output) ≤ 32 → length (b .places) ≤ 32 → length (placesIn (b .places)) ≤ 12
+      → r .flips < 4294967296 → SFits w32 (r .delay) → Put (doneText (takenText (r .flips) (r .delay) b)) 0 l m size
+      → Spoke (repliedSpoken (told r b)) l m (record { size = size; station = r .station })
   unfolding repliedSpoken answerText doneText
-  reply-taken n h f z p =
+  reply-taken n h k few f z p =
+      let ps = places-short (b .places) (omega (arith, k)) in
       rw (eq-eqb (r .number) 0 n)
-      (speaks p (simp length-append (omega (arith, h, hex-of-length c, decimal-fits (r .flips) f, signed-short (r .delay) z))))
+      (speaks p (simp length-append (omega (arith, h, hex-of-length (b .output), ps, few, decimal-fits (r .flips) f, signed-short (r .delay) z))))
 
 -- what the station answers, into a buffer of zeros
 pub reply-answered : {o q : Replied} {l m : List ℕ} {d : Served} → o ≡ q → Spoke (repliedSpoken o) l m d → Spoke (repliedSpoken q) l m d
 reply-answered e p = rw e at p
 
-pub into-zeros : (s : Station) (entry tag : ℕ) (msg marks : List ℕ) {c zeros : List ℕ} {o : Replied} → o ≡ replied s (received entry tag msg marks c)
-    → c ≡ zeros → o ≡ replied s (received entry tag msg marks zeros)
-into-zeros s entry tag msg marks e h = rw h at e
+pub into-zeros : (s : Station) (entry tag : ℕ) (msg marks : List ℕ) {c p zeros : List ℕ} {o : Replied} → o ≡ replied s (received entry tag msg marks c p)
+    → c ≡ zeros → p ≡ zeros → o ≡ replied s (received entry tag msg marks zeros zeros)
+into-zeros s entry tag msg marks e h g = rw (h, g) at e
 
 -- the words of the line
 pub reply-read : (s : Station) (ws : List (List ℕ)) {entry tag : ℕ} {msg marks l m : List ℕ} {d : Served}
-    → Spoke (repliedSpoken (replied s (received entry tag msg marks (replicate (length msg) 0)))) l m d
+    → Spoke (repliedSpoken (replied s (received entry tag msg marks (replicate (length msg) 0) (replicate (length msg) 0)))) l m d
     → entry ≡ numberAt 1 ws → tag ≡ numberAt 2 ws → msg ≡ bytesAt 3 ws → marks ≡ bytesAt 4 ws → Spoke (replySpoken s ws) l m d
 unfolding replySpoken
 reply-read s ws p a b c d = rw (a, b, c, d) at p

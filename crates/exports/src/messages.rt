@@ -1,6 +1,6 @@
 // The calls of parity for programs in other languages. An answer is one number: that of document 01 times 2^32 plus the value or the flips.
 ghost use mathlib.Core.Path.{_≡_};
-ghost use Rattle.parity_rules.specs.Answers.{reckonedSaid};
+ghost use Rattle.parity_rules.specs.Answers.{buffers, reckonedSaid};
 ghost use Rattle.parity_rules.specs.Division.{remainderAnswer};
 ghost use Rattle.parity_rules.specs.Overlays.{uplinkOverlay, codeOverlay};
 ghost use Rattle.parity_rules.specs.Correction.{correction};
@@ -57,7 +57,7 @@ pub extern "C" fn jerungkal_code_overlay(cl: u32, ic: u32) -> u64
     pack(parity::code_overlay(cl, ic))
 }
 
-// A correction.
+// A correction, and the places that it flipped.
 #[no_mangle]
 pub extern "C" fn jerungkal_correct(
     msg: &[u8],
@@ -65,8 +65,10 @@ pub extern "C" fn jerungkal_correct(
     overlay: u32,
     limit: u32,
     out: &mut [u8],
+    places: &mut [u8],
 ) -> u64
-    ensures { λ r. ⌜ opened r (now (out .exit)) ≡ correction (now (msg .entry)) (now (marks .entry)) overlay limit (now (out .entry)) ⌝ }
+    ensures { λ r. ⌜ opened r (buffers (now (out .exit)) (now (places .exit)))
+        ≡ correction (now (msg .entry)) (now (marks .entry)) overlay limit (buffers (now (out .entry)) (now (places .entry))) ⌝ }
 {
-    pack_fix(parity::correct(msg, marks, overlay, limit, out))
+    pack_fix(parity::correct(msg, marks, overlay, limit, out, places))
 }

@@ -13,14 +13,17 @@ pub fn seven_or_fourteen(n: usize) -> bool
     n == 14
 }
 
-// Whether a message has one of the two lengths and its mark and output buffers have it too.
-pub fn sized(n: usize, marks: usize, out: usize) -> bool
-    ensures { λ r. ⌜ r ≡ sized n marks out ⌝ }
+// Whether a message has one of the two lengths and its mark buffer and the two lent buffers have it too.
+pub fn sized(n: usize, marks: usize, out: usize, places: usize) -> bool
+    ensures { λ r. ⌜ r ≡ sized n marks out places ⌝ }
 {
     if marks != n {
         return false;
     }
     if out != n {
+        return false;
+    }
+    if places != n {
         return false;
     }
     seven_or_fourteen(n)

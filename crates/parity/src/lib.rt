@@ -11,6 +11,7 @@ pub use correction::correct;
 pub use division::remainder;
 pub use lengths::seven_or_fourteen;
 pub use lengths::sized;
+pub use marks::bit_at;
 pub use overlay::code_overlay;
 pub use overlay::uplink_overlay;
 pub use parity_rules::Fix;

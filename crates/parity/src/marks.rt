@@ -7,7 +7,7 @@ ghost use Rattle.parity_rules.specs.Division.{syndrome};
 ghost use Rattle.parity_rules.specs.Steps.{Noted, Gathered};
 use crate::syndrome::syndrome_of;
 
-// Bit i of some bytes, from 0.
+// Bit i of some bytes, from 0, which they have.
 pub(crate) fn bit(s: &[u8], i: usize) -> u32
     requires { ⌜ i < length (now s) * 8 ⌝ }
     ensures { λ r. ⌜ r ≡ getD (bits (now (s .entry))) i 0 ⌝ }
@@ -15,6 +15,16 @@ pub(crate) fn bit(s: &[u8], i: usize) -> u32
     let at = i / 8;
     let b = s[at] as u32;
     (b >> (7 - (i % 8) as u32)) % 2
+}
+
+// Bit i of some bytes, from 0; beyond their end there is none, which reads as 0.
+pub fn bit_at(s: &[u8], i: usize) -> u32
+    ensures { λ r. ⌜ r ≡ getD (bits (now (s .entry))) i 0 ⌝ }
+{
+    if s.len() <= i / 8 {
+        return 0;
+    }
+    bit(s, i)
 }
 
 // One bit more, before those noted: b is whether it is marked, and k how many bits come after it.

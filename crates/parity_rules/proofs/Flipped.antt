@@ -4,16 +4,17 @@ use mathlib.Core.List.{List, [], _∷_}
 use Prim.Native.Nat.{ℕ, zero, suc, _+_, _*_, _/_, _%_, _^_, _<_}
 use native.Mathlib.Nat.{pow-suc, lt-of-lt-of-le}
 use native.Mathlib.Omega.{arith}
-use lib.Bits.{bitXor, xor-block, xor-lt, xor-shr, xor-mod}
-use lib.ListN.{length, take, drop}
+use lib.Bits.{bitXor, xor-block, xor-lt, xor-shr, xor-mod, xor-comm}
+use lib.ListN.{length, take, drop, replicate, length-replicate}
 use lib.Pow.{pow-mono}
 use Rattle.lists.proofs.Xor.{xor-back}
 use Rattle.lists.specs.Lists.{spelled, All}
 use Rattle.lists.proofs.Held.{all-drop}
 use Rattle.parity_rules.specs.Messages.{bits, byteThen, xorBits, differing, AreBits, AreBytes}
-use Rattle.parity_rules.specs.Correction.{flipped}
+use Rattle.parity_rules.specs.Correction.{flipped, markBuffer}
 use Rattle.parity_rules.proofs.Linear.{byte-value, byte-bits}
 use Rattle.parity_rules.proofs.Bits.{bits-length}
+use Rattle.parity_rules.proofs.Sum.{xor-zeros}
 
 -- ---- the places where two messages differ, flipped, make the one of the other
 spelled-xor : (xs ys : List ℕ) → AreBits xs → AreBits ys → length xs ≡ length ys → (p q : ℕ)
@@ -101,6 +102,27 @@ xor-twice (x ∷ xs) (y ∷ ys) e = ap₂ (λ (n : ℕ) (l : List ℕ). n ∷ l)
 
 pub flipped-differ : (msg s : List ℕ) → AreBits s → length s ≡ length msg * 8 → differing msg (flipped msg s) ≡ s
 flipped-differ msg s h e = ap (xorBits (bits msg)) (flipped-bits msg s h e) ∙ xor-twice (bits msg) s (e ∙ sym (bits-length msg))
+
+-- flipped again they give the message that came in
+pub flipped-twice : (msg s : List ℕ) → flipped (flipped msg s) s ≡ msg
+unfolding flipped
+flipped-twice [] s = refl
+flipped-twice (b ∷ msg) s =
+    let v = spelled 0 (take 8 s) in
+    ap₂ (λ (x : ℕ) (l : List ℕ). x ∷ l) (xor-comm (bitXor b v) v ∙ ap (bitXor v) (xor-comm b v) ∙ xor-back v b) (flipped-twice msg (drop 8 s))
+
+-- ---- the mark buffer of a subset marks the subset's places
+bits-zeros : (n : ℕ) → bits (replicate n 0) ≡ replicate (n * 8) 0
+unfolding bits
+bits-zeros zero = refl
+bits-zeros (suc n) =
+    let e : suc n * 8 ≡ suc (suc (suc (suc (suc (suc (suc (suc (n * 8)))))))) = omega arith in
+    ap (byteThen 0) (bits-zeros n) ∙ ap (λ (k : ℕ). replicate k 0) (sym e)
+
+pub buffer-bits : (n : ℕ) (s : List ℕ) → AreBits s → length s ≡ n * 8 → bits (markBuffer n s) ≡ s
+buffer-bits n s h e =
+    flipped-bits (replicate n 0) s h (e ∙ ap (λ (k : ℕ). k * 8) (sym (length-replicate n 0)))
+    ∙ ap (λ (l : List ℕ). xorBits l s) (bits-zeros n ∙ ap (λ (k : ℕ). replicate k 0) (sym e)) ∙ xor-zeros s
 
 pub flipped-length : (msg s : List ℕ) → length (flipped msg s) ≡ length msg
 unfolding flipped

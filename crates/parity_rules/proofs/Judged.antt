@@ -1,7 +1,7 @@
 -- What the checks of a correction say where they are passed.
 use mathlib.Core.Path.{_≡_, refl}
 use mathlib.Core.Bool.{true, false, _&&_}
-use mathlib.Core.Logic.{_⊎_, inl, inr}
+use mathlib.Core.Logic.{_⊎_, inl, inr, ⊎-elim}
 use mathlib.Core.List.{List, [], _∷_}
 use Prim.Native.Nat.{ℕ, _≤_}
 use native.Mathlib.Omega.{arith}
@@ -13,15 +13,30 @@ use Rattle.parity_rules.specs.Messages.{sevenOrFourteen}
 use Rattle.parity_rules.specs.Correction.{first, sized}
 
 -- ---- the sizes
-short : (n : ℕ) → (eqb n 7 ≡ true) ⊎ (eqb n 14 ≡ true) → n ≤ 14
-short n (inl e) = omega (arith, eqb-true n 7 e)
-short n (inr e) = omega (arith, eqb-true n 14 e)
+either-of : (n : ℕ) → (eqb n 7 ≡ true) ⊎ (eqb n 14 ≡ true) → (n ≡ 7) ⊎ (n ≡ 14)
+either-of n (inl e) = inl (eqb-true n 7 e)
+either-of n (inr e) = inr (eqb-true n 14 e)
 
-pub sizes : (n m r : ℕ) → sized n m r ≡ true → (m ≡ n) × (r ≡ n) × (n ≤ 14)
-sizes n m r h =
-    let a = and-true (eqb m n && eqb r n) (sevenOrFourteen n) h in
-    let b = and-true (eqb m n) (eqb r n) (a .0) in
-    (eqb-true m n (b .0), eqb-true r n (b .1), short n (or-true (eqb n 7) (eqb n 14) (a .1)))
+pub record Sizes (n m r p : ℕ) : Type 0 where
+  pub marks : m ≡ n
+  pub output : r ≡ n
+  pub places : p ≡ n
+  pub either : (n ≡ 7) ⊎ (n ≡ 14)
+  pub most : n ≤ 14
+
+pub sizes : (n m r p : ℕ) → sized n m r p ≡ true → Sizes n m r p
+sizes n m r p h =
+    let a = and-true (eqb m n && eqb r n && eqb p n) (sevenOrFourteen n) h in
+    let b = and-true (eqb m n && eqb r n) (eqb p n) (a .0) in
+    let c = and-true (eqb m n) (eqb r n) (b .0) in
+    let e = either-of n (or-true (eqb n 7) (eqb n 14) (a .1)) in
+    record {
+      marks = eqb-true m n (c .0);
+      output = eqb-true r n (c .1);
+      places = eqb-true p n (b .1);
+      either = e;
+      most = ⊎-elim (λ q. omega arith) (λ q. omega arith) e;
+    }
 
 -- ---- how many match
 pub one : (l : List (List ℕ)) → length l ≡ 1 → l ≡ first l ∷ []

@@ -13,5 +13,6 @@ pub mod Flipped
 pub mod Found
 pub mod Laws
 pub mod Unique
+pub mod Places
 pub mod Outcomes
 pub mod Sizes

@@ -15,7 +15,7 @@ use Rattle.lists.proofs.Held.{all-same}
 pub zeros-are : (n : ℕ) → AreBits (replicate n 0)
 zeros-are n = all-same _ n 0 (omega arith)
 
-xor-zeros : (s : List ℕ) → xorBits (replicate (length s) 0) s ≡ s
+pub xor-zeros : (s : List ℕ) → xorBits (replicate (length s) 0) s ≡ s
 unfolding xorBits
 xor-zeros [] = refl
 xor-zeros (x ∷ s) = ap (λ (l : List ℕ). x ∷ l) (xor-zeros s)

@@ -1,7 +1,5 @@
 -- What an answer says is unique: answers that say the same are the same answer.
 use mathlib.Core.Path.{_≡_, refl, sym, ap, _∙_}
-use mathlib.Core.List.{List}
-use Prim.Native.Nat.{ℕ}
 use lib.Dec.{eqb}
 use lib.ListN.{getD}
 use Rattle.lists.specs.Lists.{pick}
@@ -10,7 +8,7 @@ use Rattle.parity_rules.specs.declared.answers.Reckoned.{Reckoned}
 use Rattle.parity_rules.specs.declared.answers.Reckoned.the-variants as reckoned
 use Rattle.parity_rules.specs.declared.answers.Fix.{Fix}
 use Rattle.parity_rules.specs.declared.answers.Fix.the-variants as fix
-use Rattle.parity_rules.specs.Answers.{Correction, reckonedSaid, fixSaid}
+use Rattle.parity_rules.specs.Answers.{Buffers, Correction, reckonedSaid, fixSaid}
 
 -- the case that a number and a value tell
 reckonedBy : Answer → Reckoned
@@ -31,7 +29,7 @@ fixBy o =
     pick (eqb (o .number) 0) (fix.Flips (o .flips)) (pick (eqb (o .number) 1) fix.Length (pick (eqb (o .number) 2) fix.Range
     (pick (eqb (o .number) 11) fix.Marks (pick (eqb (o .number) 12) fix.NoMatch fix.Doubt))))
 
-fix-back : (f : Fix) (o : List ℕ) → fixBy (fixSaid f o) ≡ f
+fix-back : (f : Fix) (o : Buffers) → fixBy (fixSaid f o) ≡ f
 unfolding fixBy
 fix-back (fix.Flips n) o = refl
 fix-back fix.Length o = refl
@@ -40,6 +38,6 @@ fix-back fix.Marks o = refl
 fix-back fix.NoMatch o = refl
 fix-back fix.Doubt o = refl
 
--- two corrections with the same number, flips and buffer are the same answer with the same buffer
-pub fix-one : (a b : Fix) (o p : List ℕ) → fixSaid a o ≡ fixSaid b p → (a ≡ b) × (o ≡ p)
-fix-one a b o p e = (sym (fix-back a o) ∙ ap fixBy e ∙ fix-back b p, ap (λ (x : Correction). x .output) e)
+-- two corrections with the same number, flips and buffers are the same answer with the same buffers: the same output, and the same places
+pub fix-one : (a b : Fix) (o p : Buffers) → fixSaid a o ≡ fixSaid b p → (a ≡ b) × (o ≡ p)
+fix-one a b o p e = (sym (fix-back a o) ∙ ap fixBy e ∙ fix-back b p, ap (λ (x : Correction). x .buffers) e)

@@ -7,11 +7,11 @@ use native.Mathlib.Numerals.{add-one}
 use native.Mathlib.Omega.{arith}
 use mathlib.Core.Bool.{Bool, true, false}
 use lib.Dec.{eqb}
-use lib.Bits.{bitXor}
-use lib.ListN.{length, drop, take, getD, set, drop-of-length-le}
+use lib.Bits.{bitXor, xor-zero-l}
+use lib.ListN.{length, drop, take, getD, set, drop-of-length-le, replicate, length-replicate, getD-replicate}
 use lib.Seq.{drop-drop, drop-cons, take-suc-set, take-all}
 use Rattle.lists.specs.Lists.{pick, spelled, filter}
-use Rattle.parity_rules.specs.Correction.{matching, first, subsets, xorOf, sizeOf, flipped}
+use Rattle.parity_rules.specs.Correction.{matching, first, subsets, xorOf, sizeOf, flipped, markBuffer}
 use Rattle.parity_rules.specs.Steps.{Left, Chosen, ChosenByte}
 use Rattle.parity_rules.proofs.Choosing.{first-is}
 
@@ -63,43 +63,65 @@ byte-end ms syns i s t mask taken k want h h′ a =
     let z : ByteAt ms syns i s 8 mask taken k want = subst (λ (x : ℕ). ByteAt ms syns i s x mask taken k want) e a in
     record { small = z .small; few = z .few; eight = z .spelled; counted = z .counted; left = z .left }
 
--- ---- the bytes of the output: j of them are written; s is the one match
-pub record Written (ms syns msg s : List ℕ) (j k want flips : ℕ) (out : List ℕ) : Type 0 where
-  pub few : flips ≤ j * 8
-  pub counted : flips + sizeOf (drop (j * 8) s) ≡ sizeOf s
-  pub bytes : take j out ++ flipped (drop j msg) (drop (j * 8) s) ≡ flipped msg s
-  pub left : Left ms syns (j * 8) k want (drop (j * 8) s)
+-- ---- a buffer of which j bytes are written: those of a message with the places of s flipped
+abbrev Laid : List ℕ → List ℕ → ℕ → List ℕ → Type 0
+Laid msg s j out = take j out ++ flipped (drop j msg) (drop (j * 8) s) ≡ flipped msg s
 
 flip-byte : (msg s : List ℕ) (j : ℕ) → j < length msg
     → flipped (drop j msg) s ≡ bitXor (getD msg j 0) (spelled 0 (take 8 s)) ∷ flipped (drop (j + 1) msg) (drop 8 s)
 unfolding flipped
 flip-byte msg s j h = rw (add-one j, drop-cons msg j 0 h)
 
-pub written-start : (ms syns msg s : List ℕ) (k want : ℕ) (out : List ℕ) → Left ms syns 0 k want s → Written ms syns msg s 0 k want 0 out
-written-start ms syns msg s k want out l = record { few = omega arith; counted = omega arith; bytes = refl; left = l }
+-- eight places further
+further : (s : List ℕ) (j : ℕ) → drop 8 (drop (j * 8) s) ≡ drop ((j + 1) * 8) s
+further s j = let e : j * 8 + 8 ≡ (j + 1) * 8 = omega arith in drop-drop 8 (j * 8) s ∙ ap (λ (n : ℕ). drop n s) e
 
-pub written-step : (ms syns msg s : List ℕ) (j k want flips : ℕ) (out : List ℕ) (mask taken k′ want′ : ℕ) → j < length msg → j < length out
-    → Written ms syns msg s j k want flips out
+laid-next : (msg s : List ℕ) (j : ℕ) (out : List ℕ) (mask v : ℕ) → j < length msg → j < length out → mask ≡ spelled 0 (take 8 (drop (j * 8) s))
+    → v ≡ bitXor (getD msg j 0) mask → Laid msg s j out → Laid msg s (j + 1) (set out j v)
+laid-next msg s j out mask v h h′ em ev w =
+    let rest = flipped (drop (j + 1) msg) (drop ((j + 1) * 8) s) in
+    ap (λ (n : ℕ). take n (set out j v) ++ rest) (add-one j)
+    ∙ ap (λ (u : List ℕ). u ++ rest) (take-suc-set out j v h′)
+    ∙ append-assoc (take j out) (v ∷ []) rest
+    ∙ ap (λ (u : List ℕ). take j out ++ u)
+    (sym
+    (flip-byte msg (drop (j * 8) s) j h
+    ∙ ap₂ (λ (n : ℕ) (u : List ℕ). n ∷ flipped (drop (j + 1) msg) u) (sym (ev ∙ ap (bitXor (getD msg j 0)) em)) (further s j)))
+    ∙ w
+
+laid-all : (msg s : List ℕ) (j : ℕ) (out : List ℕ) → length out ≤ j → length msg ≤ j → Laid msg s j out → out ≡ flipped msg s
+unfolding flipped
+laid-all msg s j out ho hm w =
+    let m : drop j msg ≡ [] = drop-of-length-le msg {i = j} hm in
+    sym (take-all j out ho) ∙ sym (append-nil (take j out)) ∙ rw m at w
+
+-- ---- j bytes of the output and of the places are written; s is the one match
+pub record Written (ms syns msg s : List ℕ) (j k want flips : ℕ) (out places : List ℕ) : Type 0 where
+  pub few : flips ≤ j * 8
+  pub counted : flips + sizeOf (drop (j * 8) s) ≡ sizeOf s
+  pub bytes : Laid msg s j out
+  pub marks : Laid (replicate (length msg) 0) s j places
+  pub left : Left ms syns (j * 8) k want (drop (j * 8) s)
+
+pub written-start : (ms syns msg s : List ℕ) (k want : ℕ) (out places : List ℕ) → Left ms syns 0 k want s → Written ms syns msg s 0 k want 0 out places
+written-start ms syns msg s k want out places l = record { few = omega arith; counted = omega arith; bytes = refl; marks = refl; left = l }
+
+pub written-step : (ms syns msg s : List ℕ) (j k want flips : ℕ) (out places : List ℕ) (mask taken k′ want′ : ℕ) → j < length msg → j < length out
+    → j < length places → Written ms syns msg s j k want flips out places
     → ChosenByte ms syns (j * 8) (first (matching want (drop (j * 8) ms))) mask taken k′ want′
-    → Written ms syns msg s (j + 1) k′ want′ (flips + taken) (set out j (bitXor (getD msg j 0) mask))
-written-step ms syns msg s j k want flips out mask taken k′ want′ h h′ w c =
+    → Written ms syns msg s (j + 1) k′ want′ (flips + taken) (set out j (bitXor (getD msg j 0) mask)) (set places j mask)
+written-step ms syns msg s j k want flips out places mask taken k′ want′ h ho hp w c =
     let ch : ChosenByte ms syns (j * 8) (drop (j * 8) s) mask taken k′ want′ =
     subst (λ (u : List ℕ). ChosenByte ms syns (j * 8) u mask taken k′ want′) (first-is ms syns (j * 8) k want (drop (j * 8) s) (w .left)) c in
     let e : j * 8 + 8 ≡ (j + 1) * 8 = omega arith in
-    let d : drop 8 (drop (j * 8) s) ≡ drop ((j + 1) * 8) s = drop-drop 8 (j * 8) s ∙ ap (λ (n : ℕ). drop n s) e in
+    let z : mask ≡ bitXor (getD (replicate (length msg) 0) j 0) mask =
+    sym (ap (λ (n : ℕ). bitXor n mask) (getD-replicate (length msg) j 0 0 h) ∙ xor-zero-l mask) in
     record {
       few = omega (arith, w .few, ch .few);
-      counted = omega (arith, ap sizeOf d, ch .counted, w .counted);
-      bytes =
-          ap (λ (n : ℕ). take n (set out j (bitXor (getD msg j 0) mask)) ++ flipped (drop (j + 1) msg) (drop ((j + 1) * 8) s)) (add-one j)
-          ∙ ap (λ (u : List ℕ). u ++ flipped (drop (j + 1) msg) (drop ((j + 1) * 8) s)) (take-suc-set out j (bitXor (getD msg j 0) mask) h′)
-          ∙ append-assoc (take j out) (bitXor (getD msg j 0) mask ∷ []) (flipped (drop (j + 1) msg) (drop ((j + 1) * 8) s))
-          ∙ ap (λ (u : List ℕ). take j out ++ u)
-          (sym
-          (flip-byte msg (drop (j * 8) s) j h
-          ∙ ap₂ (λ (n : ℕ) (u : List ℕ). bitXor (getD msg j 0) n ∷ flipped (drop (j + 1) msg) u) (sym (ch .eight)) d))
-          ∙ w .bytes;
-      left = subst₂ (λ (x : ℕ) (u : List ℕ). Left ms syns x k′ want′ u) e d (ch .left);
+      counted = omega (arith, ap sizeOf (further s j), ch .counted, w .counted);
+      bytes = laid-next msg s j out mask _ h ho (ch .eight) refl (w .bytes);
+      marks = laid-next (replicate (length msg) 0) s j places mask mask (rw (length-replicate {A = ℕ} (length msg) 0) h) hp (ch .eight) z (w .marks);
+      left = subst₂ (λ (x : ℕ) (u : List ℕ). Left ms syns x k′ want′ u) e (further s j) (ch .left);
     }
 
 empty-only : (b : Bool) (u : List ℕ) → pick b ([] ∷ []) [] ≡ u ∷ [] → u ≡ []
@@ -110,11 +132,14 @@ none-left : (want : ℕ) (u : List ℕ) → matching want [] ≡ u ∷ [] → u 
 unfolding filter matching subsets xorOf
 none-left want u e = empty-only (eqb 0 want) u e
 
-pub written-end : (ms syns msg s : List ℕ) (j k want flips : ℕ) (out : List ℕ) → length ms ≤ j * 8 → length out ≤ j → length msg ≤ j
-    → Written ms syns msg s j k want flips out → (flips ≡ sizeOf s) × (out ≡ flipped msg s)
-unfolding sizeOf flipped
-written-end ms syns msg s j k want flips out hs ho hm w =
+pub written-end : (ms syns msg s : List ℕ) (j k want flips : ℕ) (out places : List ℕ) → length ms ≤ j * 8 → length out ≤ j → length places ≤ j
+    → length msg ≤ j → Written ms syns msg s j k want flips out places
+    → (flips ≡ sizeOf s) × (out ≡ flipped msg s) × (places ≡ markBuffer (length msg) s)
+unfolding sizeOf
+written-end ms syns msg s j k want flips out places hs ho hp hm w =
     let d : drop (j * 8) ms ≡ [] = drop-of-length-le ms {i = j * 8} hs in
-    let n : drop (j * 8) s ≡ [] = none-left want (drop (j * 8) s) (rw d at (w .left .only)) in
-    let m : drop j msg ≡ [] = drop-of-length-le msg {i = j} hm in
-    (omega (arith, rw n at (w .counted)), sym (take-all j out ho) ∙ sym (append-nil (take j out)) ∙ rw m at (w .bytes))
+    let n : drop (j * 8) s ≡ [] = none-left want (drop (j * 8) s) (rw d at (w .left .only)) in (
+      omega (arith, rw n at (w .counted)),
+      laid-all msg s j out ho hm (w .bytes),
+      laid-all (replicate (length msg) 0) s j places hp (rw (length-replicate {A = ℕ} (length msg) 0) hm) (w .marks),
+    )

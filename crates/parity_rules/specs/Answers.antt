@@ -16,11 +16,19 @@ reckonedSaid reckoned.Length = refusal 1
 reckonedSaid reckoned.Range = refusal 2
 
 -- ---- a correction
--- the number given back, the flips beside it, and what the output buffer then holds
+-- the two buffers that a correction is lent: for the corrected message, and for the flipped places
+pub record Buffers : Type 0 where
+  pub output : List ℕ
+  pub places : List ℕ
+
+abbrev pub buffers : List ℕ → List ℕ → Buffers
+buffers output places = record { output = output; places = places }
+
+-- the number given back, the flips beside it, and what the buffers then hold
 pub record Correction : Type 0 where
   pub number : ℕ
   pub flips : ℕ
-  pub output : List ℕ
+  pub buffers : Buffers
 
 -- each case's number
 abbrev pub fixNumber : Fix → ℕ
@@ -40,10 +48,10 @@ flipsOf fix.Marks = 0
 flipsOf fix.NoMatch = 0
 flipsOf fix.Doubt = 0
 
--- what an answer and the buffer after the call say
-abbrev pub fixSaid : Fix → List ℕ → Correction
-fixSaid f out = record { number = fixNumber f; flips = flipsOf f; output = out }
+-- what an answer and the buffers after the call say
+abbrev pub fixSaid : Fix → Buffers → Correction
+fixSaid f b = record { number = fixNumber f; flips = flipsOf f; buffers = b }
 
 -- "a refusal returns its number alone and changes nothing"
-abbrev pub notCorrected : List ℕ → Check → Correction
-notCorrected out c = record { number = c .number; flips = 0; output = out }
+abbrev pub notCorrected : Buffers → Check → Correction
+notCorrected b c = record { number = c .number; flips = 0; buffers = b }

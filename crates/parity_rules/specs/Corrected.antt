@@ -1,11 +1,13 @@
--- What a taken correction is: "becomes that one message", and its flips are "the places where message and output differ".
+-- What a taken correction is: "becomes that one message", its places are where message and output differ, and its flips are "the number of places
+-- marked".
 use Prim.Native.Nat.{ℕ, _≤_}
 use mathlib.Core.Path.{_≡_}
 use mathlib.Core.List.{List, [], _∷_}
 use lib.ListN.{length}
 use Rattle.parity_rules.specs.Messages.{bits, differing, AreBytes}
 use Rattle.parity_rules.specs.Division.{remainderOf}
-use Rattle.parity_rules.specs.Correction.{sizeOf}
+use Rattle.parity_rules.specs.Answers.{Buffers}
+use Rattle.parity_rules.specs.Correction.{sizeOf, flipped}
 
 -- a list of places has its ones only where the marks have ones
 abbrev pub AtMarks : List ℕ → List ℕ → Type 0
@@ -21,8 +23,12 @@ pub record Fitting (msg marks : List ℕ) (overlay : ℕ) (o : List ℕ) : Type 
   pub at-marks : AtMarks (differing msg o) (bits marks)
   pub overlaid : remainderOf (bits o) ≡ overlay
 
--- out is the one such message, and n the number of places where it differs from msg
-pub record Corrected (msg marks : List ℕ) (overlay n : ℕ) (out : List ℕ) : Type 0 where
-  pub fits : Fitting msg marks overlay out
-  pub flips : n ≡ sizeOf (differing msg out)
-  pub only : (o : List ℕ) → Fitting msg marks overlay o → o ≡ out
+-- the output is the one such message; the places are exactly where message and output differ, all of them marked; n is how many they are; flipped
+-- again they give the message that came in
+pub record Corrected (msg marks : List ℕ) (overlay n : ℕ) (b : Buffers) : Type 0 where
+  pub fits : Fitting msg marks overlay (b .output)
+  pub only : (o : List ℕ) → Fitting msg marks overlay o → o ≡ b .output
+  pub places : bits (b .places) ≡ differing msg (b .output)
+  pub marked : AtMarks (bits (b .places)) (bits marks)
+  pub flips : n ≡ sizeOf (bits (b .places))
+  pub back : flipped (b .output) (bits (b .places)) ≡ msg

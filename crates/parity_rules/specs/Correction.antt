@@ -5,11 +5,11 @@ use mathlib.Core.Bool.{Bool, _&&_, not}
 use mathlib.Core.List.{List, [], _∷_, _++_, map}
 use lib.Bits.{bitXor}
 use lib.Dec.{eqb, leb, ltb}
-use lib.ListN.{length, take, drop}
+use lib.ListN.{length, take, drop, replicate}
 use Rattle.lists.specs.Lists.{filter, spelled}
 use Rattle.lists.specs.Checks.{Check, check, checked}
 use Rattle.parity_rules.specs.Messages.{bits, sevenOrFourteen}
-use Rattle.parity_rules.specs.Answers.{Correction, notCorrected}
+use Rattle.parity_rules.specs.Answers.{Buffers, buffers, Correction, notCorrected}
 use Rattle.parity_rules.specs.Division.{remainderOf, syndrome}
 
 -- the number of places in a subset: "its size"
@@ -51,13 +51,17 @@ abbrev pub first : List (List ℕ) → List ℕ
 first [] = []
 first (s ∷ r) = s
 
--- "exactly one match": the message with that subset flipped, and the subset's size
-abbrev pub flippedBy : List ℕ → List (List ℕ) → Correction
-flippedBy msg l = record { number = 0; flips = sizeOf (first l); output = flipped msg (first l) }
+-- a subset "as a mark buffer" of n bytes: zeros, with the places of the subset flipped
+abbrev pub markBuffer : ℕ → List ℕ → List ℕ
+markBuffer n s = flipped (replicate n 0) s
 
--- 7 or 14 bytes, and mark and output buffer as long as the message
-abbrev pub sized : ℕ → ℕ → ℕ → Bool
-sized msg marks out = eqb marks msg && eqb out msg && sevenOrFourteen msg
+-- "exactly one match": the subset's size, the message with that subset flipped, and its places
+abbrev pub flippedBy : List ℕ → List (List ℕ) → Correction
+flippedBy msg l = record { number = 0; flips = sizeOf (first l); buffers = buffers (flipped msg (first l)) (markBuffer (length msg) (first l)) }
+
+-- 7 or 14 bytes, and the mark buffer and the two lent buffers as long as the message
+abbrev pub sized : ℕ → ℕ → ℕ → ℕ → Bool
+sized msg marks out places = eqb marks msg && eqb out msg && eqb places msg && sevenOrFourteen msg
 
 -- an overlay of 24 bits and a limit of 0 to 12
 abbrev pub ranged : ℕ → ℕ → Bool
@@ -72,15 +76,15 @@ unfoldable pub markChecks : List ℕ → List ℕ → ℕ → ℕ → List Check
 markChecks msg marks overlay limit = check 11 (ltb limit (sizeOf (bits marks))) ∷ matchChecks (matchesOf msg marks overlay)
 
 -- 1: the lengths; 2: overlay and limit; then the marks
-unfoldable pub correctionChecks : List ℕ → List ℕ → ℕ → ℕ → List ℕ → List Check
+unfoldable pub correctionChecks : List ℕ → List ℕ → ℕ → ℕ → Buffers → List Check
 unfolding markChecks
-correctionChecks msg marks overlay limit out =
-    check 1 (not (sized (length msg) (length marks) (length out)))
+correctionChecks msg marks overlay limit b =
+    check 1 (not (sized (length msg) (length marks) (length (b .output)) (length (b .places))))
     ∷ check 2 (not (ranged overlay limit))
     ∷ markChecks msg marks overlay limit
 
 -- a correction
-unfoldable pub correction : List ℕ → List ℕ → ℕ → ℕ → List ℕ → Correction
+unfoldable pub correction : List ℕ → List ℕ → ℕ → ℕ → Buffers → Correction
 unfolding correctionChecks
-correction msg marks overlay limit out =
-    checked (correctionChecks msg marks overlay limit out) (notCorrected out) (flippedBy msg (matchesOf msg marks overlay))
+correction msg marks overlay limit b =
+    checked (correctionChecks msg marks overlay limit b) (notCorrected b) (flippedBy msg (matchesOf msg marks overlay))

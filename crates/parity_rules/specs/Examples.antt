@@ -11,6 +11,8 @@ use Rattle.lists.specs.Checks.{checked}
 use Rattle.parity_rules.specs.Messages.{bits}
 use Rattle.parity_rules.specs.Division.{shiftIn, divide, remainderOf, remainderAnswer, syndrome, syndromeOfBit}
 use Rattle.parity_rules.specs.Overlays.{lowBits, times, overlayOf, uplinkOverlay, codeOverlay}
+use Rattle.parity_rules.specs.Answers.{Buffers, buffers}
+use Rattle.parity_rules.specs.Places.{placesFrom, placesTold}
 use Rattle.parity_rules.specs.Correction.{sizeOf, subsets, xorOf, matching, flipped, correction}
 
 -- the syndrome of long bit i
@@ -34,14 +36,24 @@ two = oneBit 1 (oneBit 31 zeros)
 abbrev last : List ℕ
 last = oneBit 111 zeros
 
--- an output buffer before the call
+-- the buffers before the call
 abbrev before : List ℕ
 before = replicate 14 255
+
+abbrev lent : Buffers
+lent = buffers before (replicate 14 254)
 
 -- a correction's number, its flips and its output
 abbrev corrected : List ℕ → List ℕ → ℕ → ℕ → List ℕ
 corrected msg marks overlay limit =
-    let c = correction msg marks overlay limit before in c .number ∷ c .flips ∷ c .output
+    let c = correction msg marks overlay limit lent in c .number ∷ c .flips ∷ c .buffers .output
+
+-- what its places then hold, and the numbers of the places that it tells
+abbrev placesAfter : List ℕ → List ℕ → ℕ → ℕ → List ℕ
+placesAfter msg marks overlay limit = correction msg marks overlay limit lent .buffers .places
+
+abbrev told : List ℕ → List ℕ → ℕ → ℕ → List ℕ
+told msg marks overlay limit = placesTold (correction msg marks overlay limit lent)
 
 -- an uplink overlay's value
 abbrev uplink : ℕ → ℕ
@@ -49,11 +61,14 @@ uplink a = getD (uplinkOverlay a .values) 0 0
 
 -- ---- the tables at their edges
 -- the number of a correction of zeros with buffers of these lengths, and of one with this overlay and limit
-abbrev withLengths : ℕ → ℕ → ℕ → ℕ
-withLengths msg marks out = correction (replicate msg 0) (replicate marks 0) 0 0 (replicate out 255) .number
+abbrev withLengths : ℕ → ℕ → ℕ → ℕ → ℕ
+withLengths msg marks out places = correction (replicate msg 0) (replicate marks 0) 0 0 (buffers (replicate out 255) (replicate places 255)) .number
+
+abbrev allOf : ℕ → ℕ
+allOf n = withLengths n n n n
 
 abbrev withRanges : ℕ → ℕ → ℕ
-withRanges overlay limit = correction zeros zeros overlay limit before .number
+withRanges overlay limit = correction zeros zeros overlay limit lent .number
 
 -- the kept example of refusal 13: these six places are a code word, so they and none of them match; without the last only the empty subset does
 abbrev five : List ℕ
@@ -87,21 +102,29 @@ listing =
     ∷ row (coded 7 15) (0 ∷ 127 ∷ [])
     ∷ row (coded 8 15) (2 ∷ [])
     ∷ row (coded 7 16) (2 ∷ [])
-    ∷ row (withLengths 6 6 6 ∷ withLengths 7 7 7 ∷ withLengths 8 8 8 ∷ withLengths 13 13 13 ∷ withLengths 14 14 14 ∷ withLengths 15 15 15 ∷ [])
+    ∷ row (allOf 6 ∷ allOf 7 ∷ allOf 8 ∷ allOf 13 ∷ allOf 14 ∷ allOf 15 ∷ [])
     (1 ∷ 0 ∷ 1 ∷ 1 ∷ 0 ∷ 1 ∷ [])
-    ∷ row (withLengths 14 7 14 ∷ withLengths 14 14 7 ∷ []) (1 ∷ 1 ∷ [])
+    ∷ row (withLengths 14 7 14 14 ∷ withLengths 14 14 7 14 ∷ withLengths 14 14 14 7 ∷ withLengths 7 7 7 14 ∷ []) (1 ∷ 1 ∷ 1 ∷ 1 ∷ [])
     ∷ row (withRanges 0xFFFFFF 12 ∷ withRanges 0x1000000 12 ∷ withRanges 0 13 ∷ []) (12 ∷ 2 ∷ 2 ∷ [])
     ∷ row (corrected three three 0 3) (0 ∷ 3 ∷ zeros)
     ∷ row (corrected zeros five 0 6) (0 ∷ 0 ∷ zeros)
     ∷ row (corrected zeros six 0 6) (13 ∷ 0 ∷ before)
-    ∷ row (correction three two 0x1000000 13 (replicate 7 255) .number ∷ corrected three two 0x1000000 1) (1 ∷ 2 ∷ 0 ∷ before)
+    ∷ row (correction three two 0x1000000 13 (buffers (replicate 7 255) before) .number ∷ corrected three two 0x1000000 1) (1 ∷ 2 ∷ 0 ∷ before)
     ∷ row (corrected three two 0 1) (11 ∷ 0 ∷ before)
+    ∷ row (placesAfter three three 0 5) three
+    ∷ row (told three three 0 5) (1 ∷ 31 ∷ 111 ∷ [])
+    ∷ row (placesAfter zeros three 0x000002 5) last
+    ∷ row (told zeros three 0x000002 5) (111 ∷ [])
+    ∷ row (placesAfter zeros five 0 6) zeros
+    ∷ row (placesAfter three two 0 5) (lent .places)
+    ∷ row (placesAfter zeros six 0 6) (lent .places)
     ∷ []
 
 -- the one claim
 pub corrections-agree : Agrees listing
 unfolding filter checked bits shiftIn divide remainderOf syndrome sizeOf subsets xorOf matching flipped correction lowBits times overlayOf remainderAnswer
-    uplinkOverlay codeOverlay
+    uplinkOverlay codeOverlay placesFrom
 corrections-agree =
     refl also refl also refl also refl also refl also refl also refl also refl also refl also refl also
-    refl also refl also refl also refl also refl also refl also refl also refl also refl also refl also tt
+    refl also refl also refl also refl also refl also refl also refl also refl also refl also refl also
+    refl also refl also refl also refl also refl also refl also refl also tt

@@ -4,6 +4,7 @@ pub mod Messages
 pub mod Division
 pub mod Overlays
 pub mod Correction
+pub mod Places
 pub mod Corrected
 pub mod Steps
 pub mod Examples

@@ -12,7 +12,7 @@ pub enum Reckoned {
 
 // What became of a correction.
 pub enum Fix {
-    // Exactly one subset matches: the output is the message with its bits flipped, this many.
+    // Exactly one subset matches: the output is the message with its bits flipped, this many, and the places are marked.
     Flips(u32),
     // A message that is not 7 or 14 bytes, or a buffer that is not as long.
     Length,

@@ -3,7 +3,7 @@ ghost use mathlib.Core.Path.{_≡_};
 ghost use mathlib.Core.Bool.{true};
 ghost use Prim.Native.Nat.{_<_};
 ghost use lib.ListN.{length};
-ghost use Rattle.parity_rules.specs.Answers.{fixNumber, flipsOf};
+ghost use Rattle.parity_rules.specs.Answers.{buffers, fixNumber, flipsOf};
 ghost use Rattle.parity_rules.specs.Correction.{sized};
 ghost use Rattle.frames_rules.specs.Reading.{formatOf};
 ghost use Rattle.station_rules.specs.Replies.{valueIn, correctedAs};
@@ -62,7 +62,7 @@ pub(crate) fn value_in(m: &[u8]) -> u16
     a % 32 * 256 + b
 }
 
-// A correction, and 14 where its format is not the expected one; a refusal leaves no promise of the buffer.
+// A correction, and 14 where its format is not the expected one; a refusal leaves no promise of the buffers.
 fn on_trial(
     msg: &[u8],
     marks: &[u8],
@@ -70,12 +70,14 @@ fn on_trial(
     limit: u32,
     format: u8,
     out: &mut [u8],
+    places: &mut [u8],
 ) -> Corrected
     requires { ⌜ 3 < length (now out) ⌝ }
-    ensures { λ r. ⌜ asCorrection r (now (out .exit))
-        ≡ correctedAs format (now (msg .entry)) (now (marks .entry)) address limit (now (out .entry)) (now (out .exit)) ⌝ }
+    ensures { λ r. ⌜ asCorrection r (buffers (now (out .exit)) (now (places .exit)))
+        ≡ correctedAs format (now (msg .entry)) (now (marks .entry)) address limit
+        (buffers (now (out .entry)) (now (places .entry))) (buffers (now (out .exit)) (now (places .exit))) ⌝ }
 {
-    let f = parity::correct(msg, marks, address, limit, out);
+    let f = parity::correct(msg, marks, address, limit, out, places);
     let n = number(f);
     if n != 0 {
         return Corrected {
@@ -95,7 +97,7 @@ fn on_trial(
     }
 }
 
-// Copies a message.
+// Copies a buffer.
 fn copy(from: &[u8], out: &mut [u8])
     requires { ⌜ length (now from) ≡ length (now out) ⌝ }
     ensures { λ _. ⌜ now (out .exit) ≡ now (from .entry) ⌝ }
@@ -115,17 +117,29 @@ pub(crate) fn correct_as(
     limit: u32,
     format: u8,
     out: &mut [u8],
+    places: &mut [u8],
 ) -> Corrected
-    requires { ⌜ sized (length (now msg)) (length (now marks)) (length (now out)) ≡ true ⌝ }
-    ensures { λ r. ⌜ asCorrection r (now (out .exit))
-        ≡ correctedAs format (now (msg .entry)) (now (marks .entry)) address limit (now (out .entry)) (now (out .entry)) ⌝ }
+    requires { ⌜ sized (length (now msg)) (length (now marks)) (length (now out)) (length (now places)) ≡ true ⌝ }
+    ensures { λ r. ⌜ asCorrection r (buffers (now (out .exit)) (now (places .exit)))
+        ≡ correctedAs format (now (msg .entry)) (now (marks .entry)) address limit
+        (buffers (now (out .entry)) (now (places .entry))) (buffers (now (out .entry)) (now (places .entry))) ⌝ }
 {
     let n = msg.len();
-    let mut scratch = [0u8; 14];
-    let r = on_trial(msg, marks, address, limit, format, &mut scratch[..n]);
+    let mut corrected = [0u8; 14];
+    let mut flipped = [0u8; 14];
+    let r = on_trial(
+        msg,
+        marks,
+        address,
+        limit,
+        format,
+        &mut corrected[..n],
+        &mut flipped[..n],
+    );
     if r.number != 0 {
         return r;
     }
-    copy(&scratch[..n], out);
+    copy(&corrected[..n], out);
+    copy(&flipped[..n], places);
     r
 }

@@ -4,6 +4,7 @@ ghost use mathlib.Core.Bool.{true};
 ghost use Prim.Native.Nat.{_<_};
 ghost use lib.ListN.{length};
 ghost use Rattle.lists.specs.Checks.{given};
+ghost use Rattle.parity_rules.specs.Answers.{buffers};
 ghost use Rattle.parity_rules.specs.Correction.{sized};
 ghost use Rattle.station_rules.specs.State.{entriesOf};
 ghost use Rattle.station_rules.specs.Replies.{expected, holdsID, startOf, inWindow, saidIn, targetsHeard, entryNumbered};
@@ -86,17 +87,34 @@ fn refused(number: u8, s: Station) -> Reply
 }
 
 // A reply that has passed the checks before the correction, by the correction.
-fn settle(s: Station, entry: usize, tag: u32, msg: &[u8], marks: &[u8], out: &mut [u8]) -> Reply
-    requires { ⌜ sized (length (now msg)) (length (now marks)) (length (now out)) ≡ true ⌝ }
+fn settle(
+    s: Station,
+    entry: usize,
+    tag: u32,
+    msg: &[u8],
+    marks: &[u8],
+    out: &mut [u8],
+    places: &mut [u8],
+) -> Reply
+    requires { ⌜ sized (length (now msg)) (length (now marks)) (length (now out)) (length (now places)) ≡ true ⌝ }
     requires { ⌜ entry < length (entriesOf (s .plan)) ⌝ }
     requires { ⌜ inWindow (entryNumbered entry s) (startOf tag (s .plan .tag)) ≡ true ⌝ }
-    ensures { λ r. ⌜ told r (now (out .exit)) ≡ settled s (received entry tag (now (msg .entry)) (now (marks .entry)) (now (out .entry))) ⌝ }
+    ensures { λ r. ⌜ told r (buffers (now (out .exit)) (now (places .exit)))
+        ≡ settled s (received entry tag (now (msg .entry)) (now (marks .entry)) (now (out .entry)) (now (places .entry))) ⌝ }
 {
     let p = s.plan;
     let e = entry_of(p, entry);
     let a = e.ask;
     let q = a.request;
-    let f = correct_as(msg, marks, q.address, byte(s.setup.limit), expected(q), out);
+    let f = correct_as(
+        msg,
+        marks,
+        q.address,
+        byte(s.setup.limit),
+        expected(q),
+        out,
+        places,
+    );
     if f.number != 0 {
         return refused(f.number, s);
     }
@@ -138,10 +156,12 @@ pub fn take_reply(
     msg: &[u8],
     marks: &[u8],
     out: &mut [u8],
+    places: &mut [u8],
 ) -> Reply
-    ensures { λ r. ⌜ told r (now (out .exit)) ≡ replied s (received entry tag (now (msg .entry)) (now (marks .entry)) (now (out .entry))) ⌝ }
+    ensures { λ r. ⌜ told r (buffers (now (out .exit)) (now (places .exit)))
+        ≡ replied s (received entry tag (now (msg .entry)) (now (marks .entry)) (now (out .entry)) (now (places .entry))) ⌝ }
 {
-    if !parity::sized(msg.len(), marks.len(), out.len()) {
+    if !parity::sized(msg.len(), marks.len(), out.len(), places.len()) {
         return refused(1, s);
     }
     let p = s.plan;
@@ -153,5 +173,5 @@ pub fn take_reply(
     if k != 0 {
         return refused(k, s);
     }
-    settle(s, entry, tag, msg, marks, out)
+    settle(s, entry, tag, msg, marks, out, places)
 }

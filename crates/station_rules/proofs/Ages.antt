@@ -10,7 +10,6 @@ use lib.Dec.{eqb, ltb}
 use Rattle.lists.specs.Lists.{pick, filter}
 use Rattle.lists.proofs.Checks.{Passed, CameTo, was-refused, was-done, came-to}
 use Rattle.lists.proofs.Each.{image-set, image-at, image-through}
-use Rattle.frames_rules.specs.Building.{isAddress}
 use Rattle.planner_rules.specs.declared.request.Ask.{Ask}
 use Rattle.planner_rules.specs.declared.entry.Status.the-variants.{Answered}
 use Rattle.planner_rules.specs.declared.setup.Setup.{Setup}
@@ -77,7 +76,7 @@ module _ (s : Station) (f : List Ask) (h : Force s f) where
   force-done (move a near far) = h
   force-done (request q) = h
   force-done (plan tag) = refl
-  force-done (reply r) = heard-force (r .entry) (corrected s r .output)
+  force-done (reply r) = heard-force (r .entry) (corrected s r .buffers .output)
   force-done (report a) = h
 
 pub in-force : (cs : List Call) → Force (after cs) (inForce (events cs))
@@ -259,7 +258,7 @@ module _ (i : Kind) (a : ℕ) where
     agree-done (plan tag) p = next-plan tag
     agree-done (reply r) p =
         subst (λ (m : List ℕ). Agree i a (targetsOf (next s (reply r) .targets)) (saidAfter i a f (spoke (r .entry) m) x))
-        (sym (ap (λ (y : Replied). y .output) (passed-is s r p))) (next-heard (r .entry) (corrected s r .output))
+        (sym (ap (λ (y : Replied). y .buffers .output) (passed-is s r p))) (next-heard (r .entry) (corrected s r .buffers .output))
     agree-done (report b) p = h
 
   pub agree : (cs : List Call) → Agree i a (targetsOf (after cs .targets)) (lastSaid i a (events cs))

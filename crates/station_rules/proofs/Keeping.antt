@@ -375,7 +375,7 @@ kept-done s h (remove a) p z = without-keeps s a h
 kept-done s h (move a near far) p z = move-keeps s a near far h (not-false _ (p .off 2)) (not-false _ (p .off 4))
 kept-done s h (request q) p z = request-keeps s q h (not-false _ (p .off 2)) (not-false _ (p .off 4)) (p .off 6)
 kept-done s h (plan tag) p z = planned-keeps s tag h
-kept-done s h (reply r) p z = reply-keeps s (r .entry) (corrected s r .output) h
+kept-done s h (reply r) p z = reply-keeps s (r .entry) (corrected s r .buffers .output) h
 kept-done s h (report a) p z = h
 
 pub kept-next : (s : Station) → Kept s → (c : Call) → Kept (answer s c .station)

@@ -27,17 +27,17 @@ use Rattle.station_rules.specs.Seen.{Kind, events, lastSaid, shown, repo
 pub record Demand1 (cs : List Call) : Type 0 where
   pub numbers : (c : Call) → answer (after cs) c .number ≡ given (checks (after cs) c)
   pub unchanged : (c : Call) → (answer (after cs) c .number ≡ 0 → ⊥) → answer (after cs) c .station ≡ after cs
-  pub unwritten : (r : Received) → (replied (after cs) r .number ≡ 0 → ⊥) → replied (after cs) r .output ≡ r .output
+  pub unwritten : (r : Received) → (replied (after cs) r .number ≡ 0 → ⊥) → replied (after cs) r .buffers ≡ r .buffers
 
 -- demand 2, ages: a report gives the value that the aircraft last said and the number of plans since; it is never heard exactly if it never said one
 pub record Ages (cs : List Call) : Type 0 where
   pub told : (i : Kind) (a : ℕ) → reported (after cs) a .number ≡ 0 → reportOf i (reported (after cs) a) ≡ shown (lastSaid i a (events cs))
 
 -- demand 2, replies: what a taken reply writes is the one message that differs from what came in at marked places only and has the entry's address as
--- its overlay; the flips are the places where the two differ; its format is the expected one
+-- its overlay; its places are those where the two differ, and its flips are the number of places marked; its format is the expected one
 pub record Believed (s : Station) (r : Received) (a : Replied) : Type 0 where
-  pub corrected : Corrected (r .message) (r .marks) (requestFor s r .address) (a .flips) (a .output)
-  pub format : formatOf (a .output) ≡ expected (requestFor s r)
+  pub corrected : Corrected (r .message) (r .marks) (requestFor s r .address) (a .flips) (a .buffers)
+  pub format : formatOf (a .buffers .output) ≡ expected (requestFor s r)
 
 -- how many ticks a reply lasts: "replies 256 short and 480 long", by its bytes
 abbrev pub lasts : List ℕ → ℕ

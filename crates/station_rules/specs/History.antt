@@ -13,7 +13,7 @@ use Rattle.station_rules.specs.Calls.{leaves, setUp, unitFull, newTarget
 use Rattle.station_rules.specs.Calls.{moved}
 use Rattle.station_rules.specs.Calls.{requestChecks, withRequest, requested, reported}
 use Rattle.station_rules.specs.Planning.{nextPlan}
-use Rattle.station_rules.specs.Replies.{Received, Replied, requestFor, entryChecks, correctedChecks, settleChecks, corrected, afterReply, replied}
+use Rattle.station_rules.specs.Replies.{Received, Replied, entryChecks, settleChecks, corrected, afterReply, replied}
 
 -- a call with all that it is given; a reply also with the buffer that it is lent
 pub data Call : Type 0 where
@@ -69,5 +69,5 @@ next s (remove a) = without a s
 next s (move a near far) = withMoved a near far s
 next s (request q) = withRequest q s
 next s (plan tag) = nextPlan s tag
-next s (reply r) = afterReply (r .entry) (corrected s r .output) s
+next s (reply r) = afterReply (r .entry) (corrected s r .buffers .output) s
 next s (report a) = s

@@ -7,7 +7,7 @@ use lib.Dec.{eqb, leb, ltb}
 use lib.IntN.{ℤ, pos, subℕ}
 use Rattle.lists.specs.Lists.{pick}
 use Rattle.lists.specs.Checks.{Check, check, checked}
-use Rattle.parity_rules.specs.Answers.{Correction, notCorrected}
+use Rattle.parity_rules.specs.Answers.{Buffers, buffers, Correction, notCorrected}
 use Rattle.parity_rules.specs.Correction.{sized, matchesOf, flippedBy, correctionChecks}
 use Rattle.frames_rules.specs.declared.answers.Draws.{Draws}
 use Rattle.frames_rules.specs.declared.answers.Draws.the-variants.{Format, Nothing}
@@ -88,16 +88,16 @@ unfoldable pub afterReply : ℕ → List ℕ → Station → Station
 afterReply k m s =
     withTargets (targetsHeard (requestNumbered k s) (valueIn m) (s .targets)) (withPlan (planAnswered k (s .plan)) s)
 
--- ---- what a reply is given, and the buffer that it is lent
+-- ---- what a reply is given, and the buffers that it is lent
 pub record Received : Type 0 where
   pub entry : ℕ
   pub tag : ℕ
   pub message : List ℕ
   pub marks : List ℕ
-  pub output : List ℕ
+  pub buffers : Buffers
 
-abbrev pub received : ℕ → ℕ → List ℕ → List ℕ → List ℕ → Received
-received k tag msg marks out = record { entry = k; tag = tag; message = msg; marks = marks; output = out }
+abbrev pub received : ℕ → ℕ → List ℕ → List ℕ → List ℕ → List ℕ → Received
+received k tag msg marks out places = record { entry = k; tag = tag; message = msg; marks = marks; buffers = buffers out places }
 
 -- its entry, the request of that, and its start on the plan's clock
 abbrev pub entryFor : Station → Received → Entry
@@ -126,62 +126,68 @@ openChecks e start n =
 unfoldable pub entryChecks : Station → Received → List Check
 unfolding openChecks
 entryChecks s r =
-    check 1 (not (sized (length (r .message)) (length (r .marks)) (length (r .output))))
+    check 1 (not (sized (length (r .message)) (length (r .marks)) (length (r .buffers .output)) (length (r .buffers .places))))
     ∷ check 7 (not (ltb (r .entry) (length (entriesOf (s .plan)))))
     ∷ openChecks (entryFor s r) (startFor s r) (length (r .message))
 
 -- 14: "corrected format not the expected one"
 unfoldable pub formatChecks : ℕ → List ℕ → List (List ℕ) → List Check
-formatChecks f msg ms = check 14 (not (eqb (formatOf (flippedBy msg ms .output)) f)) ∷ []
+formatChecks f msg ms = check 14 (not (eqb (formatOf (flippedBy msg ms .buffers .output)) f)) ∷ []
 
 -- of a correction that must have a format: its own, then that of the format
-unfoldable pub correctedChecks : ℕ → List ℕ → List ℕ → ℕ → ℕ → List ℕ → List Check
+unfoldable pub correctedChecks : ℕ → List ℕ → List ℕ → ℕ → ℕ → Buffers → List Check
 unfolding correctionChecks formatChecks
-correctedChecks f msg marks overlay limit out =
-    correctionChecks msg marks overlay limit out ++ formatChecks f msg (matchesOf msg marks overlay)
+correctedChecks f msg marks overlay limit lent =
+    correctionChecks msg marks overlay limit lent ++ formatChecks f msg (matchesOf msg marks overlay)
 
--- what it comes to, where a refusal leaves the buffer `left`
-unfoldable pub correctedAs : ℕ → List ℕ → List ℕ → ℕ → ℕ → List ℕ → List ℕ → Correction
+-- what it comes to, where a refusal leaves the buffers `left`
+unfoldable pub correctedAs : ℕ → List ℕ → List ℕ → ℕ → ℕ → Buffers → Buffers → Correction
 unfolding correctedChecks
-correctedAs f msg marks overlay limit out left =
-    checked (correctedChecks f msg marks overlay limit out) (notCorrected left) (flippedBy msg (matchesOf msg marks overlay))
+correctedAs f msg marks overlay limit lent left =
+    checked (correctedChecks f msg marks overlay limit lent) (notCorrected left) (flippedBy msg (matchesOf msg marks overlay))
 
 -- for the request of its entry, over that one's address, by the station's limit
 abbrev pub settleChecks : Station → Received → List Check
 settleChecks s r =
     let q = requestFor s r in
-    correctedChecks (expected q) (r .message) (r .marks) (q .address) (s .setup .limit) (r .output)
+    correctedChecks (expected q) (r .message) (r .marks) (q .address) (s .setup .limit) (r .buffers)
 
--- ---- what the caller is told, what the corrected buffer then holds, and the station afterwards
+-- ---- what the caller is told, what the buffers then hold, and the station afterwards
 pub record Replied : Type 0 where
   pub number : ℕ
   pub flips : ℕ
   pub delay : ℤ
-  pub output : List ℕ
+  pub buffers : Buffers
   pub station : Station
 
-abbrev pub told : Reply → List ℕ → Replied
-told r out = record { number = r .number; flips = r .flips; delay = r .delay; output = out; station = r .station }
+abbrev pub told : Reply → Buffers → Replied
+told r b = record { number = r .number; flips = r .flips; delay = r .delay; buffers = b; station = r .station }
 
 -- "a refusal returns its number alone and changes nothing, neither state nor lent buffers"
-abbrev pub refusedReply : Station → List ℕ → Check → Replied
-refusedReply s out c = record { number = c .number; flips = 0; delay = pos 0; output = out; station = s }
+abbrev pub refusedReply : Station → Buffers → Check → Replied
+refusedReply s b c = record { number = c .number; flips = 0; delay = pos 0; buffers = b; station = s }
 
 -- a reply that is taken with a correction
 abbrev pub takenAs : Station → Received → Correction → Replied
 takenAs s r o =
-    record { number = 0; flips = o .flips; delay = delayOf (entryFor s r) (startFor s r); output = o .output; station = afterReply (r .entry) (o .output) s }
+    record {
+      number = 0;
+      flips = o .flips;
+      delay = delayOf (entryFor s r) (startFor s r);
+      buffers = o .buffers;
+      station = afterReply (r .entry) (o .buffers .output) s;
+    }
 
--- the message with the one subset flipped
+-- the message with the one subset flipped, and the places of that subset
 abbrev pub corrected : Station → Received → Correction
 corrected s r = flippedBy (r .message) (matchesFor (requestFor s r) r)
 
 -- by the correction
 unfoldable pub settled : Station → Received → Replied
 unfolding correctedChecks
-settled s r = checked (settleChecks s r) (refusedReply s (r .output)) (takenAs s r (corrected s r))
+settled s r = checked (settleChecks s r) (refusedReply s (r .buffers)) (takenAs s r (corrected s r))
 
 -- a reply
 unfoldable pub replied : Station → Received → Replied
 unfolding entryChecks
-replied s r = checked (entryChecks s r) (refusedReply s (r .output)) (settled s r)
+replied s r = checked (entryChecks s r) (refusedReply s (r .buffers)) (settled s r)

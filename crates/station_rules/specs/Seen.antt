@@ -38,7 +38,7 @@ effectBy made corrects (reply r) = spoke (r .entry) (corrects r)
 effectBy made corrects (report a) = none
 
 abbrev pub effect : Station → Call → Effect
-effect s c = effectBy (λ tag. map askOf (entriesOf (nextPlan s tag .plan))) (λ r. replied s r .output) c
+effect s c = effectBy (λ tag. map askOf (entriesOf (nextPlan s tag .plan))) (λ r. replied s r .buffers .output) c
 
 -- "a refusal .. changes nothing"
 abbrev pub seenAs : ℕ → Effect → Effect

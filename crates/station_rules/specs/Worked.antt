@@ -88,12 +88,12 @@ unmarked = replicate 7 0
 -- what a reply with a tag is told: its number, and the delay
 abbrev told : ℕ → ℕ → List ℕ
 told planTag tag =
-    let r = replied (after (near-by planTag)) (received 0 tag good unmarked unmarked) in
+    let r = replied (after (near-by planTag)) (received 0 tag good unmarked unmarked unmarked) in
     r .number ∷ signed (r .delay)
 
--- the number of a reply to an entry of that plan, by its tag, message and marks; the buffer is as long as the message
+-- the number of a reply to an entry of that plan, by its tag, message and marks; the buffers are as long as the message
 abbrev judged : ℕ → ℕ → List ℕ → List ℕ → ℕ
-judged k tag msg marks = number (near-by 100) (reply (received k tag msg marks (replicate (length msg) 0)))
+judged k tag msg marks = number (near-by 100) (reply (received k tag msg marks (replicate (length msg) 0) (replicate (length msg) 0)))
 
 -- the good message with bit 40 altered, and one of DF 5 over the same address
 abbrev altered : List ℕ
@@ -108,6 +108,13 @@ marked last = 0 ∷ 0 ∷ 0 ∷ 0 ∷ 0 ∷ 0 ∷ last ∷ []
 
 abbrev at40 : List ℕ
 at40 = 0 ∷ 0 ∷ 0 ∷ 0 ∷ 1 ∷ 0 ∷ 0 ∷ []
+
+-- what the places buffer holds after a reply to entry 0 that is in time, with a spare byte in each of its bytes before
+abbrev spare : List ℕ
+spare = replicate 7 254
+
+abbrev placesAfter : List ℕ → List ℕ → List ℕ
+placesAfter msg marks = replied (after (near-by 100)) (received 0 631 msg marks unmarked spare) .buffers .places
 
 -- ---- the rows
 abbrev pub listing : List Row
@@ -132,18 +139,24 @@ listing =
     ∷ row (number two (request (asking 8 3)) ∷ number two (request (asking 7 3)) ∷ number two (request (asking 7 2)) ∷ []) (2 ∷ 4 ∷ 0 ∷ [])
     ∷ row (answer (busy 16) (request (asking 0 3)) .number ∷ answer (busy 16) (request (asking 0 1)) .number ∷ []) (4 ∷ 6 ∷ [])
     ∷ row (answer (busy 15) (request (asking 0 1)) .number ∷ answer (busy 16) (request (asking 1 1)) .number ∷ []) (0 ∷ 0 ∷ [])
-    -- a reply, 1: a message of 6 bytes, marks or buffer not as long as the message, before 7
+    -- a reply, 1: a message of 6 bytes, marks or a buffer not as long as the message, before 7
     ∷ row (judged 1 631 (replicate 6 0) (replicate 6 0) ∷ judged 1 631 good (replicate 6 0) ∷ []) (1 ∷ 1 ∷ [])
-    ∷ row (number (near-by 100) (reply (received 1 631 good unmarked (replicate 8 0))) ∷ []) (1 ∷ [])
+    ∷ row (number (near-by 100) (reply (received 1 631 good unmarked (replicate 8 0) unmarked)) ∷ []) (1 ∷ [])
+    ∷ row (number (near-by 100) (reply (received 1 631 good unmarked unmarked (replicate 8 0))) ∷ []) (1 ∷ [])
     -- 7: the plan has one entry, 0; 8: it was answered, or withdrawn with its target, before 9
     ∷ row (judged 1 631 good unmarked ∷ judged 0 631 good unmarked ∷ []) (7 ∷ 0 ∷ [])
-    ∷ row (number (reply (received 0 631 good unmarked unmarked) ∷ near-by 100) (reply (received 0 631 good unmarked unmarked)) ∷ []) (8 ∷ [])
-    ∷ row (number (remove 1 ∷ near-by 100) (reply (received 0 631 (replicate 14 0) (replicate 14 0) (replicate 14 0))) ∷ []) (8 ∷ [])
+    ∷ row (number (reply (received 0 631 good unmarked unmarked unmarked) ∷ near-by 100) (reply (received 0 631 good unmarked unmarked unmarked)) ∷ []) (8 ∷ [])
+    ∷ row (number (remove 1 ∷ near-by 100) (reply (received 0 631 (replicate 14 0) (replicate 14 0) (replicate 14 0) (replicate 14 0))) ∷ []) (8 ∷ [])
     -- 9: a long message to a short reply's entry, before 10; 10 before 11
     ∷ row (judged 0 629 (replicate 14 0) (replicate 14 0) ∷ judged 0 629 altered (marked 0x3F) ∷ []) (9 ∷ 10 ∷ [])
     -- 11: six marks where the limit is 5, before 12; 12: the altered bit is not marked; 14: DF 5 where UF 4 draws DF 4
     ∷ row (judged 0 631 altered (marked 0x3F) ∷ judged 0 631 altered (marked 0x1F) ∷ judged 0 631 altered at40 ∷ []) (11 ∷ 12 ∷ 0 ∷ [])
     ∷ row (judged 0 631 other unmarked ∷ judged 0 631 good unmarked ∷ []) (14 ∷ 0 ∷ [])
+    -- the flipped places, of the marked ones; a refusal leaves the buffer, 14 as well
+    ∷ row (placesAfter altered (0 ∷ 0 ∷ 0 ∷ 0 ∷ 3 ∷ 0 ∷ 1 ∷ [])) at40
+    ∷ row (placesAfter good at40) unmarked
+    ∷ row (placesAfter altered unmarked) spare
+    ∷ row (placesAfter other unmarked) spare
     -- "all the rest by age": unit 1 asked first; the second exchange is clear when its window, [1530, 1792) after its start, is
     ∷ row (units (plan 0 ∷ waiting)) (1 ∷ 0 ∷ [])
     ∷ row (starts (plan 0 ∷ waiting)) (0 ∷ 262 ∷ [])
@@ -171,4 +184,4 @@ unfolding checked countOf total every indexOf filter over selectiveRanged sentFo
 calls-agree =
     refl also refl also refl also refl also refl also refl also refl also refl also refl also refl also refl also refl also refl also refl also refl also
     refl also refl also refl also refl also refl also refl also refl also refl also refl also refl also refl also refl also refl also refl also refl also
-    refl also refl also tt
+    refl also refl also refl also refl also refl also refl also refl also tt

@@ -13,6 +13,7 @@ use Rattle.reader_rules.specs.declared.fields.Reply.{Reply}
 use Rattle.reader_rules.specs.declared.reading.Found.{Found}
 use Rattle.reader_rules.specs.declared.reading.Found.the-variants.{End, Unknown, Cut, Whole}
 use Rattle.reader_rules.specs.Records.{messageLength, recordAt, nextPlace}
+use Rattle.parity_rules.specs.Places.{placesIn}
 use Rattle.reader_rules.specs.Fields.{replyAt}
 use Rattle.reader_rules.proofs.Parts.{parts-in-order}
 use Rattle.station_rules.specs.declared.state.Station.{Station}
@@ -24,7 +25,7 @@ use Rattle.stream.specs.Calls.{Within, Did, Stepped, Advanced}
 use Rattle.stream.specs.declared.step.Step.{Step}
 use Rattle.stream_rules.specs.declared.run.Run.{Run}
 use Rattle.stream_rules.proofs.Runs.{stays-ended, lays-nothing}
-use Rattle.stream_rules.specs.Step.{Obeyed, refusedAt, answered, repliedTo, replyTo, zeros, reportedTo, obeyed}
+use Rattle.stream_rules.specs.Step.{Obeyed, refusedAt, repliedTo, replyTo, zeros, reportedTo, obeyed}
 use Rattle.stream_rules.specs.Run.{obeyedAt, goesOn, obeyedNow, linesNow, stepped, advanced, longest}
 use Rattle.stream.proofs.Lengths.{within-more, within-of}
 
@@ -52,7 +53,7 @@ module _ (n kind : ℕ) (r : Replied) where
   pub reply-refused : (r .number ≡ 0 → ⊥) → answerLine n kind (r .number) ≡ repliedTo n kind r .lines
   reply-refused h = rw (ne-eqb (r .number) 0 h)
 
-  pub reply-taken : r .number ≡ 0 → replyLine n kind (r .flips) (r .delay) ≡ repliedTo n kind r .lines
+  pub reply-taken : r .number ≡ 0 → replyLine n kind (r .flips) (r .delay) (placesIn (r .buffers .places)) ≡ repliedTo n kind r .lines
   reply-taken h = rw (eq-eqb (r .number) 0 h)
 
 -- the parts of a reply that was read lie in the stream one after the other

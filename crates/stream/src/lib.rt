@@ -9,7 +9,6 @@ mod step;
 mod words;
 
 pub use answers::put_answer;
-pub use answers::put_reply_answer;
 pub use entries::put_entries;
 pub use entries::put_entry;
 pub use entries::put_entry_head;

@@ -8,5 +8,6 @@ pub mod Reader
 pub mod Printed
 pub mod Stands
 pub mod ReadOff
+pub mod Placed
 mod Examples
 pub mod Places

@@ -8,13 +8,14 @@ use lib.IntN.{ℤ, subℕ}
 use lib.ListN.{getD}
 use borrow.Author.Tests.{eqb-true}
 use Rattle.lists.specs.Lists.{pick}
-use Rattle.lists.specs.Checks.{checked, given}
+use Rattle.lists.specs.Checks.{checked}
 use Rattle.lists.proofs.Held.{all-nil, all-cons}
 use Rattle.text_rules.specs.Put.{decimal}
 use Rattle.text_rules.specs.Signed.{signedDecimal}
 use Rattle.text_rules.proofs.Parted.{Word, decimal-word, signed-word}
-use Rattle.parity_rules.specs.Messages.{AreBytes, differing}
-use Rattle.parity_rules.specs.Correction.{sizeOf}
+use Rattle.parity_rules.specs.Messages.{AreBytes}
+use Rattle.parity_rules.specs.Places.{placesIn}
+use Rattle.parity_rules.proofs.Places.{numbered}
 use Rattle.planner_rules.specs.declared.entry.Entry.{Entry}
 use Rattle.planner_rules.specs.declared.request.Ask.{Ask}
 use Rattle.planner_rules.specs.declared.setup.Setup.{Setup}
@@ -33,6 +34,7 @@ use Rattle.station_rules.specs.History.{Call, plan, reply, report, after}
 use Rattle.station_rules.specs.Seen.{AC, ID, Effect, events, inForce}
 use Rattle.station_rules.proofs.Keeping.{plan-shows, always-kept}
 use Rattle.station_rules.proofs.Came.{taken}
+use Rattle.station_rules.proofs.Replies.{places-told}
 use Rattle.station_rules.proofs.Demands.{demand1, ages, replies, plans, left-back}
 use Rattle.stream_rules.specs.Lines.{answerLine, replyLine, entryLines, reportLine}
 use Rattle.stream_rules.specs.Step.{Obeyed, repliedTo}
@@ -42,7 +44,7 @@ use Rattle.stream_rules.specs.Spelled.{Spells, recordLines}
 use Rattle.stream_rules.specs.Reader.{Shown, numbersOn, answerOn, entriesBy, shownIn, seen, shownTo, knownBy, boardBy, lineOf, eventsBy}
 use Rattle.stream_rules.specs.Printed.{lastSaidLine, NumberPrinted, boardOn, PlanPrinted, ReplyPrinted, ReplyTold, ToldBy, Told, Printed}
 use Rattle.stream_rules.proofs.Spelled.{linesBy, linesFor, whole-done, BytesBy, MessageBytes, message-bytes, run-at}
-use Rattle.stream_rules.proofs.ReadBack.{answer-read, plan-lines-read}
+use Rattle.stream_rules.proofs.ReadBack.{decimals, answer-read, plan-lines-read}
 use Rattle.stream_rules.proofs.Reader.{madeBy, shownFor, shownOf, Knows, known-is, asked-read, board-read, line-of-entry, entry-asks, events-read}
 
 -- ---- the number on a record's line
@@ -56,17 +58,17 @@ with-below : (n kind number : ℕ) (t : List ℕ) → NumberPrinted n kind numbe
 unfolding answerLine
 with-below n kind number t = record { added = []; below = t; text-is = refl; read-as = answer-read n kind number [] (all-nil Word) t }
 
-with-flips : (n kind flips : ℕ) (delay : ℤ) → NumberPrinted n kind 0 (replyLine n kind flips delay)
+with-flips : (n kind flips : ℕ) (delay : ℤ) (ps : List ℕ) → NumberPrinted n kind 0 (replyLine n kind flips delay ps)
 unfolding replyLine
-with-flips n kind flips delay =
-    let e : replyLine n kind flips delay ≡ replyLine n kind flips delay ++ [] = sym (append-nil _) in
-    let ws = decimal flips ∷ signedDecimal delay ∷ [] in
-    let w = all-cons Word _ _ (decimal-word flips) (all-cons Word (signedDecimal delay) [] (signed-word delay) (all-nil Word)) in
+with-flips n kind flips delay ps =
+    let e : replyLine n kind flips delay ps ≡ replyLine n kind flips delay ps ++ [] = sym (append-nil _) in
+    let ws = decimal flips ∷ signedDecimal delay ∷ map decimal ps in
+    let w = all-cons Word _ _ (decimal-word flips) (all-cons Word (signedDecimal delay) (map decimal ps) (signed-word delay) (decimals ps)) in
     record { added = ws; below = []; text-is = e; read-as = ap (λ (t : List ℕ). answerOn (numbersOn t)) e ∙ answer-read n kind 0 ws w [] }
 
 reply-number : (n kind : ℕ) (r : Replied) (b : Bool) → eqb (r .number) 0 ≡ b
-    → NumberPrinted n kind (r .number) (pick b (replyLine n kind (r .flips) (r .delay)) (answerLine n kind (r .number)))
-reply-number n kind r true e = rw (eqb-true (r .number) 0 e) (with-flips n kind (r .flips) (r .delay))
+    → NumberPrinted n kind (r .number) (pick b (replyLine n kind (r .flips) (r .delay) (placesIn (r .buffers .places))) (answerLine n kind (r .number)))
+reply-number n kind r true e = rw (eqb-true (r .number) 0 e) (with-flips n kind (r .flips) (r .delay) (placesIn (r .buffers .places)))
 reply-number n kind r false e = alone n kind (r .number)
 
 -- it is the one that the table gives the call
@@ -137,7 +139,7 @@ plan-told n kind cs tag =
     }
 
 -- ---- a reply's line
-taken-line : (n kind : ℕ) (r : Replied) → r .number ≡ 0 → repliedTo n kind r .lines ≡ replyLine n kind (r .flips) (r .delay)
+taken-line : (n kind : ℕ) (r : Replied) → r .number ≡ 0 → repliedTo n kind r .lines ≡ replyLine n kind (r .flips) (r .delay) (placesIn (r .buffers .places))
 taken-line n kind r e = rw e
 
 refused-line : (n kind : ℕ) (r : Replied) (b : Bool) → eqb (r .number) 0 ≡ b → (r .number ≡ 0 → ⊥) → repliedTo n kind r .lines ≡ answerLine n kind (r .number)
@@ -164,13 +166,17 @@ reply-told n kind cs r bytes =
       taken = λ z.
           let y : a .number ≡ 0 = same ∙ z in
           let t = replies cs r bytes y in
-          let f : a .flips ≡ sizeOf (differing (r .message) (a .output)) = t .corrected .flips in
+          let p = places-told (after cs) r y in
           record {
-            output = a .output;
+            output = a .buffers .output;
+            places = a .buffers .places;
             text-is =
                 taken-line n kind a y
-                ∙ ap₂ (λ (x : ℕ) (d : ℤ). replyLine n kind x d) f (ap (λ (x : Replied). x .delay) (taken (after cs) r y .is) ∙ delay-read cs r);
-            corrected = rw (address, ← f) (t .corrected);
+                ∙ ap₂ (λ (x : ℕ) (d : ℤ). replyLine n kind x d (placesIn (a .buffers .places))) (p .flips)
+                (ap (λ (x : Replied). x .delay) (taken (after cs) r y .is) ∙ delay-read cs r);
+            corrected = rw (address, ← (p .flips)) (t .corrected);
+            numbered = numbered (a .buffers .places);
+            few = p .few;
             format = t .format ∙ sym asks;
           };
       refused = λ z. refused-line n kind a (eqb (a .number) 0) refl (λ y. z (sym same ∙ y)) ∙ ap (answerLine n kind) same;

@@ -60,7 +60,7 @@ line-read ws h t =
     ∙ ap (λ (x : List (List ℕ)). map (valueAfter 0) x ∷ numbersOn t) (words-are ws h)
 
 -- ---- decimal words
-decimals : (ns : List ℕ) → All Word (map decimal ns)
+pub decimals : (ns : List ℕ) → All Word (map decimal ns)
 unfolding All
 decimals [] = tt
 decimals (n ∷ ns) = (decimal-word n, decimals ns)

@@ -1,25 +1,28 @@
 -- What the records show is read off the whole transcript: from the bytes of the input and of the transcript alone, for every input.
+use borrow.Author.Tests.{ne-eqb}
 use Prim.Native.Nat.{ℕ, zero, suc, _+_, _-_, _≤_}
 use mathlib.Core.Path.{_≡_, refl, ap, ap₂, sym, _∙_}
-use mathlib.Core.Bool.{Bool, true, false}
+use mathlib.Core.Bool.{Bool, true, false, not}
 use mathlib.Core.List.{List, [], _∷_, _++_, map, append-assoc, append-nil}
 use lib.Dec.{eqb}
 use lib.IntN.{ℤ}
-use lib.ListN.{length, take, drop, length-take}
+use lib.ListN.{length, getD, take, length-take}
 use lib.Seq.{take-at, drop-at}
 use native.Mathlib.Omega.{arith}
 use Rattle.lists.specs.Lists.{pick, All}
+use Rattle.lists.proofs.Held.{all-map}
+use Rattle.lists.proofs.Tests.{and-yes, and-no-right}
 use Rattle.text_rules.specs.Line.{parts, linesOf}
 use Rattle.text_rules.specs.Number.{valueAfter}
 use Rattle.text_rules.specs.Put.{decimal}
 use Rattle.text_rules.specs.Signed.{signedDecimal}
 use Rattle.text_rules.proofs.Decimal.{decimal-value}
 use Rattle.text_rules.proofs.Parted.{Word, decimal-word, signed-word, dash-word}
+use Rattle.parity_rules.specs.Places.{placesIn}
 use Rattle.planner_rules.specs.declared.entry.Entry.{Entry}
 use Rattle.reader_rules.specs.declared.reading.Found.{Found}
 use Rattle.reader_rules.specs.declared.reading.Found.the-variants.{End, Unknown, Cut, Whole}
 use Rattle.reader_rules.specs.Records.{recordAt}
-use Rattle.station_rules.specs.declared.state.Station.{Station}
 use Rattle.station_rules.specs.declared.state.Value.{Value}
 use Rattle.station_rules.specs.declared.state.Value.the-variants.{Never, Heard}
 use Rattle.station_rules.specs.declared.state.Report.{Report}
@@ -27,16 +30,19 @@ use Rattle.station_rules.specs.State.{entriesOf}
 use Rattle.station_rules.specs.Calls.{reported}
 use Rattle.station_rules.specs.Planning.{nextPlan}
 use Rattle.station_rules.specs.Replies.{Replied, replied}
-use Rattle.station_rules.specs.History.{Call, answer, after}
-use Rattle.stream_rules.specs.Lines.{line, answerLine, replyLine, entryLine, entryLines, valueWord, ageWord, reportLine}
+use Rattle.station_rules.specs.History.{Call, plan, after}
+use Rattle.station_rules.specs.Kept.{Entered}
+use Rattle.station_rules.proofs.Keeping.{always-kept, request-in}
+use Rattle.stream_rules.specs.Lines.{answerLine, replyLine, entryLine, entryLines, valueWord, ageWord, reportLine}
 use Rattle.stream_rules.specs.Step.{Obeyed}
 use Rattle.stream_rules.specs.Run.{obeyedAt, goesOn, textFrom, transcript}
 use Rattle.stream_rules.specs.Spelled.{streamOf, callOf, Prints, plain, ofPlan, ofReply, ofReport, printsOf, placeOf, foundAfter, callsOf, recordLines}
 use Rattle.stream_rules.specs.Spelled.{reached}
-use Rattle.stream_rules.specs.Reader.{Shown, numbersOn, answerOn, shownOn, shownIn, seen, shownTo, sixes, countBy, countOn, Reading, readWhole, readOne}
+use Rattle.stream_rules.specs.Reader.{Shown, numbersOn, shownOn, shownIn, seen, shownTo, isEntry, entriesFirst}
+use Rattle.stream_rules.specs.Reader.{countBy, countOn, Reading, readWhole, readOne}
 use Rattle.stream_rules.specs.Reader.{readTo}
 use Rattle.stream_rules.proofs.Spelled.{linesBy, linesFor, whole-done}
-use Rattle.stream_rules.proofs.ReadBack.{line-read}
+use Rattle.stream_rules.proofs.ReadBack.{line-read, decimals}
 use Rattle.stream_rules.proofs.Stands.{whole-reached, within, onward, one-more}
 
 -- ---- texts of whole lines
@@ -64,8 +70,8 @@ values ws = map (valueAfter 0) ws
 pub record CallLines {c : Call} (p : Prints c) (text : List ℕ) : Type 0 where
   pub lines : List (List ℕ)
   pub lined : Lined text lines
-  pub count : (t : List (List ℕ)) → sixes t ≡ 0 → countBy p (lines ++ t) ≡ length lines
-  pub first : (t : List (List ℕ)) → sixes (lines ++ t) ≡ 0
+  pub count : (t : List (List ℕ)) → entriesFirst t ≡ 0 → countBy p (lines ++ t) ≡ length lines
+  pub first : (t : List (List ℕ)) → entriesFirst (lines ++ t) ≡ 0
 
 abbrev answerWords : ℕ → ℕ → ℕ → List (List ℕ)
 answerWords n kind number = decimal n ∷ decimal kind ∷ decimal number ∷ []
@@ -76,28 +82,33 @@ answer-lined n kind number = line-read (answerWords n kind number) (decimal-word
 
 -- a line alone
 answer-lines : {c : Call} (p : Prints c) → ((ls : List (List ℕ)) → countBy p ls ≡ 1) → (n kind number : ℕ) → CallLines p (answerLine n kind number)
-unfolding sixes
+unfolding entriesFirst
 answer-lines p one n kind number =
     record { lines = values (answerWords n kind number) ∷ []; lined = answer-lined n kind number; count = λ t z. one _; first = λ t. refl }
 
-abbrev replyWords : ℕ → ℕ → ℕ → ℤ → List (List ℕ)
-replyWords n kind flips delay = decimal n ∷ decimal kind ∷ decimal 0 ∷ decimal flips ∷ signedDecimal delay ∷ []
+abbrev replyWords : ℕ → ℕ → ℕ → ℤ → List ℕ → List (List ℕ)
+replyWords n kind flips delay ps = decimal n ∷ decimal kind ∷ decimal 0 ∷ decimal flips ∷ signedDecimal delay ∷ map decimal ps
 
-reply-lined : (n kind flips : ℕ) (delay : ℤ) → Lined (replyLine n kind flips delay) (values (replyWords n kind flips delay) ∷ [])
+reply-lined : (n kind flips : ℕ) (delay : ℤ) (ps : List ℕ) → Lined (replyLine n kind flips delay ps) (values (replyWords n kind flips delay ps) ∷ [])
 unfolding replyLine All
-reply-lined n kind flips delay =
-    line-read (replyWords n kind flips delay)
-    (decimal-word n, (decimal-word kind, (decimal-word 0, (decimal-word flips, (signed-word delay, tt)))))
+reply-lined n kind flips delay ps =
+    line-read (replyWords n kind flips delay ps)
+    (decimal-word n, (decimal-word kind, (decimal-word 0, (decimal-word flips, (signed-word delay, decimals ps)))))
+
+-- a line whose third number is 0 is no entry's
+no-entry : (l : List ℕ) → getD l 2 0 ≡ 0 → (t : List (List ℕ)) → entriesFirst (l ∷ t) ≡ 0
+unfolding entriesFirst
+no-entry l e t = rw (e, and-no-right (eqb (length l) 6) false refl)
 
 reply-lines : {c : Call} (p : Prints c) → ((ls : List (List ℕ)) → countBy p ls ≡ 1) → (n kind : ℕ) (r : Replied) (b : Bool)
-    → CallLines p (pick b (replyLine n kind (r .flips) (r .delay)) (answerLine n kind (r .number)))
-unfolding sixes
+    → CallLines p (pick b (replyLine n kind (r .flips) (r .delay) (placesIn (r .buffers .places))) (answerLine n kind (r .number)))
 reply-lines p one n kind r true =
+    let ps = placesIn (r .buffers .places) in
     record {
-      lines = values (replyWords n kind (r .flips) (r .delay)) ∷ [];
-      lined = reply-lined n kind (r .flips) (r .delay);
+      lines = values (replyWords n kind (r .flips) (r .delay) ps) ∷ [];
+      lined = reply-lined n kind (r .flips) (r .delay) ps;
       count = λ t z. one _;
-      first = λ t. refl;
+      first = no-entry (values (replyWords n kind (r .flips) (r .delay) ps)) (decimal-value 0);
     }
 reply-lines p one n kind r false = answer-lines p one n kind (r .number)
 
@@ -105,13 +116,20 @@ reply-lines p one n kind r false = answer-lines p one n kind (r .number)
 pub record EntriesLined (text : List ℕ) : Type 0 where
   pub lines : List (List ℕ)
   pub lined : Lined text lines
-  pub all-six : (t : List (List ℕ)) → sixes t ≡ 0 → sixes (lines ++ t) ≡ length lines
+  pub all-six : (t : List (List ℕ)) → entriesFirst t ≡ 0 → entriesFirst (lines ++ t) ≡ length lines
 
-entry-lined : (k : ℕ) (es : List Entry) → EntriesLined (entryLines k es)
-unfolding entryLines entryLine sixes All
-entry-lined k [] = record { lines = []; lined = λ t. refl; all-six = λ t z. z }
-entry-lined k (e ∷ es) =
-    let later = entry-lined (suc k) es in
+-- an entry's address is not 0
+abbrev Addressed : Entry → Type 0
+Addressed e = e .ask .request .address ≡ 0 → ⊥
+
+is-entry : (l : List ℕ) → eqb (length l) 6 ≡ true → (getD l 2 0 ≡ 0 → ⊥) → isEntry l ≡ true
+is-entry l six a = and-yes (eqb (length l) 6) (not (eqb (getD l 2 0) 0)) six (ap not (ne-eqb (getD l 2 0) 0 a))
+
+entry-lined : (k : ℕ) (es : List Entry) → All Addressed es → EntriesLined (entryLines k es)
+unfolding entryLines entryLine entriesFirst All
+entry-lined k [] h = record { lines = []; lined = λ t. refl; all-six = λ t z. z }
+entry-lined k (e ∷ es) h =
+    let later = entry-lined (suc k) es (h .1) in
     let ws =
     decimal k ∷ decimal (e .ask .request .unit) ∷ decimal (e .ask .request .address) ∷ decimal (e .start) ∷ decimal _ ∷ decimal _ ∷ [] in
     record {
@@ -120,13 +138,13 @@ entry-lined k (e ∷ es) =
           lined-then (entryLine k e) (entryLines (suc k) es) (values ws ∷ []) (later .lines)
           (line-read ws (decimal-word _, (decimal-word _, (decimal-word _, (decimal-word _, (decimal-word _, (decimal-word _, tt)))))))
           (later .lined);
-      all-six = λ t z. ap suc (later .all-six t z);
+      all-six = λ t z. rw (is-entry (values ws) refl (λ q. h .0 (sym (decimal-value (e .ask .request .address)) ∙ q))) (ap suc (later .all-six t z));
     }
 
-plan-lines : (n kind tag : ℕ) (es : List Entry) → CallLines (ofPlan tag) (answerLine n kind 0 ++ entryLines 0 es)
-unfolding sixes
-plan-lines n kind tag es =
-    let below = entry-lined 0 es in
+plan-lines : (n kind tag : ℕ) (es : List Entry) → All Addressed es → CallLines (ofPlan tag) (answerLine n kind 0 ++ entryLines 0 es)
+unfolding entriesFirst
+plan-lines n kind tag es h =
+    let below = entry-lined 0 es h in
     record {
       lines = values (answerWords n kind 0) ∷ below .lines;
       lined = lined-then (answerLine n kind 0) (entryLines 0 es) (values (answerWords n kind 0) ∷ []) (below .lines) (answer-lined n kind 0) (below .lined);
@@ -158,7 +176,7 @@ two-or-one number b e = rw (decimal-value number, e)
 
 report-lines : (n kind a : ℕ) (r : Report) (b : Bool) → eqb (r .number) 0 ≡ b
     → CallLines (ofReport a) (answerLine n kind (r .number) ++ pick b (reportLine (r .ac) (r .id)) [])
-unfolding sixes
+unfolding entriesFirst
 report-lines n kind a r true e =
     record {
       lines = values (answerWords n kind (r .number)) ∷ values (reportWords (r .ac) (r .id)) ∷ [];
@@ -177,32 +195,40 @@ report-lines n kind a r false e =
       first = λ t. refl;
     }
 
-lines-by : (n kind : ℕ) (st : Station) {c : Call} (p : Prints c) → CallLines p (linesBy p n kind st)
-lines-by n kind st plain = answer-lines plain (λ ls. refl) n kind _
-lines-by n kind st (ofPlan tag) = plan-lines n kind tag (entriesOf (nextPlan st tag .plan))
-lines-by n kind st (ofReply r) = reply-lines (ofReply r) (λ ls. refl) n kind (replied st r) (eqb (replied st r .number) 0)
-lines-by n kind st (ofReport a) = report-lines n kind a (reported st a) (eqb (reported st a .number) 0) refl
+-- of every history: the requests that were taken have addresses
+planned : (cs : List Call) (tag : ℕ) → All Addressed (entriesOf (nextPlan (after cs) tag .plan))
+unfolding after
+planned cs tag =
+    all-map (Entered (after (plan tag ∷ cs) .targets)) Addressed
+    (λ e h z. omega (arith, request-in (e .ask .request) (h .0) .1 .address-is .0, z)) (entriesOf (nextPlan (after cs) tag .plan))
+    (always-kept (plan tag ∷ cs) .entries)
+
+lines-by : (n kind : ℕ) (cs : List Call) {c : Call} (p : Prints c) → CallLines p (linesBy p n kind (after cs))
+lines-by n kind cs plain = answer-lines plain (λ ls. refl) n kind _
+lines-by n kind cs (ofPlan tag) = plan-lines n kind tag (entriesOf (nextPlan (after cs) tag .plan)) (planned cs tag)
+lines-by n kind cs (ofReply r) = reply-lines (ofReply r) (λ ls. refl) n kind (replied (after cs) r) (eqb (replied (after cs) r .number) 0)
+lines-by n kind cs (ofReport a) = report-lines n kind a (reported (after cs) a) (eqb (reported (after cs) a .number) 0) refl
 
 -- ---- the text from a record on begins with no entry's line
-begins : (s : List ℕ) (at n : ℕ) (st : Station) (f : Found) (t : List ℕ) → recordAt s at ≡ f
-    → sixes (numbersOn (obeyedAt s n st f .lines ++ pick (goesOn f) t [])) ≡ 0
-unfolding obeyedAt goesOn sixes linesOf parts
-begins s at n st End t h = refl
-begins s at n st (Unknown b) t h = ap sixes (answer-lined n b 16 [])
-begins s at n st (Cut kind) t h = ap sixes (answer-lined n kind 17 [])
-begins s at n st (Whole kind body next) t h =
-    let l = lines-by n kind st (printsOf (callOf s kind body)) in
-    ap (λ (o : Obeyed). sixes (numbersOn (o .lines ++ t))) (whole-done s at n st h) ∙ ap sixes (l .lined t) ∙ l .first (numbersOn t)
+begins : (s : List ℕ) (at n : ℕ) (cs : List Call) (f : Found) (t : List ℕ) → recordAt s at ≡ f
+    → entriesFirst (numbersOn (obeyedAt s n (after cs) f .lines ++ pick (goesOn f) t [])) ≡ 0
+unfolding obeyedAt goesOn entriesFirst linesOf parts
+begins s at n cs End t h = refl
+begins s at n cs (Unknown b) t h = ap entriesFirst (answer-lined n b 16 [])
+begins s at n cs (Cut kind) t h = ap entriesFirst (answer-lined n kind 17 [])
+begins s at n cs (Whole kind body next) t h =
+    let l = lines-by n kind cs (printsOf (callOf s kind body)) in
+    ap (λ (o : Obeyed). entriesFirst (numbersOn (o .lines ++ t))) (whole-done s at n (after cs) h) ∙ ap entriesFirst (l .lined t) ∙ l .first (numbersOn t)
 
-onward-begins : (j : ℕ) (s : List ℕ) (k : ℕ) → sixes (numbersOn (onward j s k)) ≡ 0
-unfolding textFrom sixes linesOf parts recordLines
+onward-begins : (j : ℕ) (s : List ℕ) (k : ℕ) → entriesFirst (numbersOn (onward j s k)) ≡ 0
+unfolding textFrom entriesFirst linesOf parts recordLines
 onward-begins zero s k = refl
 onward-begins (suc j) s k =
-    ap (λ (t : List ℕ). sixes (numbersOn t)) (one-more j s k)
-    ∙ begins s (placeOf s k) (suc k) (after (callsOf s k)) (foundAfter s k) (onward j s (suc k)) refl
+    ap (λ (t : List ℕ). entriesFirst (numbersOn t)) (one-more j s k)
+    ∙ begins s (placeOf s k) (suc k) (callsOf s k) (foundAfter s k) (onward j s (suc k)) refl
 
 -- ---- record after record
-read-lines : (c : Call) (text : List ℕ) (v : List Shown) (t : List ℕ) → CallLines (printsOf c) text → sixes (numbersOn t) ≡ 0
+read-lines : (c : Call) (text : List ℕ) (v : List Shown) (t : List ℕ) → CallLines (printsOf c) text → entriesFirst (numbersOn t) ≡ 0
     → readWhole c (record { shown = v; left = numbersOn (text ++ t) }) ≡ record { shown = shownIn c text ∷ v; left = numbersOn t }
 read-lines c text v t l z =
     let ls = l .lines in
@@ -212,18 +238,19 @@ read-lines c text v t l z =
     (take-at ls (numbersOn t) (countOn c (ls ++ numbersOn t)) n ∙ sym (lined-is text ls (l .lined)))
     (drop-at ls (numbersOn t) (countOn c (ls ++ numbersOn t)) n)
 
-read-found : (s : List ℕ) (at n : ℕ) (st : Station) (f : Found) (v : List Shown) (t : List ℕ) → recordAt s at ≡ f → goesOn f ≡ true → sixes (numbersOn t) ≡ 0
-    → readOne s f (record { shown = v; left = numbersOn (obeyedAt s n st f .lines ++ pick (goesOn f) t []) })
-    ≡ record { shown = seen s f (obeyedAt s n st f .lines) v; left = numbersOn t }
+read-found : (s : List ℕ) (at n : ℕ) (cs : List Call) (f : Found) (v : List Shown) (t : List ℕ) → recordAt s at ≡ f → goesOn f ≡ true
+    → entriesFirst (numbersOn t) ≡ 0
+    → readOne s f (record { shown = v; left = numbersOn (obeyedAt s n (after cs) f .lines ++ pick (goesOn f) t []) })
+    ≡ record { shown = seen s f (obeyedAt s n (after cs) f .lines) v; left = numbersOn t }
 unfolding readOne seen obeyedAt goesOn
-read-found s at n st End v t h e z = let w : _≡_ {A = ℕ} 0 1 = cc in absurd (omega arith)
-read-found s at n st (Unknown b) v t h e z = let w : _≡_ {A = ℕ} 0 1 = cc in absurd (omega arith)
-read-found s at n st (Cut kind) v t h e z = let w : _≡_ {A = ℕ} 0 1 = cc in absurd (omega arith)
-read-found s at n st (Whole kind body next) v t h e z =
+read-found s at n cs End v t h e z = let w : _≡_ {A = ℕ} 0 1 = cc in absurd (omega arith)
+read-found s at n cs (Unknown b) v t h e z = let w : _≡_ {A = ℕ} 0 1 = cc in absurd (omega arith)
+read-found s at n cs (Cut kind) v t h e z = let w : _≡_ {A = ℕ} 0 1 = cc in absurd (omega arith)
+read-found s at n cs (Whole kind body next) v t h e z =
     let c = callOf s kind body in
-    let o = whole-done s at n st h in
+    let o = whole-done s at n (after cs) h in
     ap (λ (x : Obeyed). readWhole c (record { shown = v; left = numbersOn (x .lines ++ t) })) o
-    ∙ read-lines c (linesFor n kind st c) v t (lines-by n kind st (printsOf c)) z
+    ∙ read-lines c (linesFor n kind (after cs) c) v t (lines-by n kind cs (printsOf c)) z
     ∙ ap (λ (x : Obeyed). record { shown = shownIn c (x .lines) ∷ v; left = numbersOn t }) (sym o)
 
 read-on : (s : List ℕ) (k j m : ℕ) → k + j ≡ m → reached s k ≡ true
@@ -233,7 +260,7 @@ read-on s zero j m e h = let z : j ≡ m = omega (arith, e) in rw z
 read-on s (suc k) j m e h =
     ap (readOne s (foundAfter s k)) (read-on s k (suc j) m (omega (arith, e)) (whole-reached s k h))
     ∙ ap (λ (t : List ℕ). readOne s (foundAfter s k) (record { shown = shownTo s k; left = numbersOn t })) (one-more j s k)
-    ∙ read-found s (placeOf s k) (suc k) (after (callsOf s k)) (foundAfter s k) (shownTo s k) (onward j s (suc k)) refl h (onward-begins j s (suc k))
+    ∙ read-found s (placeOf s k) (suc k) (callsOf s k) (foundAfter s k) (shownTo s k) (onward j s (suc k)) refl h (onward-begins j s (suc k))
 
 -- what the records show stands in the bytes of the input and of the transcript
 pub read-off : (input : List ℕ) (k : ℕ) → reached (streamOf input) k ≡ true → readTo (streamOf input) (transcript input) k .shown ≡ shownTo (streamOf input) k

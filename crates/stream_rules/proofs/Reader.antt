@@ -229,7 +229,7 @@ module _ (s : Station) (k : Known) (h : Knows s k) where
         lines-are = h .lines-are;
       }
   next-known ok (calls.plan tag) p = next-plan ok tag
-  next-known ok (calls.reply r) p = next-heard (r .entry) (corrected s r .output)
+  next-known ok (calls.reply r) p = next-heard (r .entry) (corrected s r .buffers .output)
   next-known ok (calls.report a) p = h
 
   -- a refused call changes nothing
@@ -287,10 +287,10 @@ same-effect m n f g (calls.report a) p q = refl
 
 module _ (cs : List Call) where
   -- the corrected message of a taken reply
-  output-read : (r : Received) → replied (after cs) r .number ≡ 0 → correctedIn (events cs) r ≡ replied (after cs) r .output
+  output-read : (r : Received) → replied (after cs) r .number ≡ 0 → correctedIn (events cs) r ≡ replied (after cs) r .buffers .output
   output-read r z =
-      ap (λ (x : Ask). flippedBy (r .message) (matchesFor (x .request) r) .output) (entry-asks cs (r .entry))
-      ∙ sym (ap (λ (x : Replied). x .output) (taken (after cs) r z .is))
+      ap (λ (x : Ask). flippedBy (r .message) (matchesFor (x .request) r) .buffers .output) (entry-asks cs (r .entry))
+      ∙ sym (ap (λ (x : Replied). x .buffers .output) (taken (after cs) r z .is))
 
   made-read : (c : Call) (tag : ℕ) → c ≡ calls.plan tag
       → map askOf (boardBy (knownBy (shownOf cs)) (map entryShown (entriesMade (after cs) c)) .placed) ≡ map askOf (entriesOf (nextPlan (after cs) tag .plan))
@@ -303,7 +303,8 @@ module _ (cs : List Call) where
       → effectBy (λ tag. map askOf (boardBy (knownBy (shownOf cs)) (map entryShown (entriesMade (after cs) c)) .placed)) (correctedIn (events cs)) c ≡ effect
       (after cs) c
   done-read c z =
-      same-effect _ (λ tag. map askOf (entriesOf (nextPlan (after cs) tag .plan))) (correctedIn (events cs)) (λ r. replied (after cs) r .output) c (made-read c)
+      same-effect _ (λ tag. map askOf (entriesOf (nextPlan (after cs) tag .plan))) (correctedIn (events cs))
+      (λ r. replied (after cs) r .buffers .output) c (made-read c)
       (λ r e. output-read r (ap (λ (x : Call). answer (after cs) x .number) (sym e) ∙ z))
 
   seen-by : (x y : Effect) (n : ℕ) (b : Bool) → eqb n 0 ≡ b → (n ≡ 0 → x ≡ y) → pick b x none ≡ pick b y none

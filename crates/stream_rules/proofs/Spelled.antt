@@ -44,7 +44,8 @@ by-kind P a b c d e f g h i (suc (suc (suc (suc (suc (suc (suc (suc (suc (suc n)
 
 -- message and marks are the bytes that stand behind entry and tag
 abbrev repliedBy : Station → List ℕ → ℕ → ℕ → Replied
-repliedBy st s b m = replied st (received (getD s b 0) (numberAt s (b + 1) 4) (bytesAt s (b + 5) m) (bytesAt s (b + 5 + m) m) (replicate m 0))
+repliedBy st s b m =
+    replied st (received (getD s b 0) (numberAt s (b + 1) 4) (bytesAt s (b + 5) m) (bytesAt s (b + 5 + m) m) (replicate m 0) (replicate m 0))
 
 reply-is : (s : List ℕ) (b : ℕ) (st : Station) (kind m : ℕ) → messageLength kind ≡ m → b + 5 + m + m ≤ length s
     → replyTo s kind b st (zeros kind) ≡ repliedBy st s b m

@@ -1,6 +1,6 @@
 -- The lines that records print: decimal numbers parted by single spaces, each line ended by a newline.
 use Prim.Native.Nat.{ℕ, suc}
-use mathlib.Core.List.{List, [], _∷_, _++_}
+use mathlib.Core.List.{List, [], _∷_, _++_, map}
 use lib.IntN.{ℤ}
 use Rattle.text_rules.specs.Put.{decimal}
 use Rattle.text_rules.specs.Signed.{signedDecimal}
@@ -28,9 +28,10 @@ spaced (w ∷ ws) = followed w 32 ++ spaced ws
 unfoldable pub answerLine : ℕ → ℕ → ℕ → List ℕ
 answerLine n kind answer = line (decimal n ∷ decimal kind ∷ decimal answer ∷ [])
 
--- a taken reply adds flips and delay
-unfoldable pub replyLine : ℕ → ℕ → ℕ → ℤ → List ℕ
-replyLine n kind flips delay = line (decimal n ∷ decimal kind ∷ decimal 0 ∷ decimal flips ∷ signedDecimal delay ∷ [])
+-- a taken reply adds flips and delay, and "the places, rising, after the delay"
+unfoldable pub replyLine : ℕ → ℕ → ℕ → ℤ → List ℕ → List ℕ
+replyLine n kind flips delay places =
+    line (decimal n ∷ decimal kind ∷ decimal 0 ∷ decimal flips ∷ signedDecimal delay ∷ map decimal places)
 
 -- entry, unit, address, start, window start, window end
 abbrev pub entryWords : ℕ → Entry → List (List ℕ)

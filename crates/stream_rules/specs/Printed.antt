@@ -1,15 +1,15 @@
 -- What a record prints, told by the demands from what the records before it spell and print.
-use Prim.Native.Nat.{ℕ, suc, _+_}
+use Prim.Native.Nat.{ℕ, suc, _+_, _≤_}
 use mathlib.Core.Path.{_≡_}
 use mathlib.Core.Bool.{true, false}
 use mathlib.Core.List.{List, [], _∷_, _++_}
 use lib.Dec.{eqb}
 use lib.IntN.{subℕ}
-use lib.ListN.{getD}
+use lib.ListN.{length, getD}
 use Rattle.lists.specs.Lists.{pick}
 use Rattle.text_rules.specs.Put.{decimal}
-use Rattle.parity_rules.specs.Messages.{differing}
-use Rattle.parity_rules.specs.Correction.{sizeOf}
+use Rattle.parity_rules.specs.Answers.{buffers}
+use Rattle.parity_rules.specs.Places.{placesIn, Numbered}
 use Rattle.parity_rules.specs.Corrected.{Corrected}
 use Rattle.frames_rules.specs.Reading.{formatOf}
 use Rattle.planner_rules.specs.Plan.{Board}
@@ -51,13 +51,17 @@ pub record PlanPrinted (n kind : ℕ) (v : List Shown) (tag : ℕ) (text : List 
   pub text-is : text ≡ answerLine n kind 0 ++ entryLines 0 (boardOn v tag text .placed)
   pub demand : Demand3 (knownBy v .setup) (askedKnown (knownBy v)) (boardOn v tag text .placed) (boardOn v tag text .waiting)
 
--- a taken reply: the number of places where the message and the one corrected message differ, and s − t − 531: s is its tag minus the newest plan's, and
--- t the start on the entry's line. The message is corrected over the address on that line, and its format is what the entry's request draws
+-- a taken reply: the number of places where the message and the one corrected message differ, s − t − 531, and the numbers of those places: s is its tag
+-- minus the newest plan's, and t the start on the entry's line. The message is corrected over the address on that line, and its format is what the entry's
+-- request draws
 pub record ReplyPrinted (n kind : ℕ) (v : List Shown) (r : Received) (text : List ℕ) : Type 0 where
   pub output : List ℕ
+  pub places : List ℕ
   pub text-is : text
-      ≡ replyLine n kind (sizeOf (differing (r .message) output)) (subℕ (startOf (r .tag) (knownBy v .tag)) (lineOf (r .entry) v .start + 531))
-  pub corrected : Corrected (r .message) (r .marks) (lineOf (r .entry) v .address) (sizeOf (differing (r .message) output)) output
+      ≡ replyLine n kind (length (placesIn places)) (subℕ (startOf (r .tag) (knownBy v .tag)) (lineOf (r .entry) v .start + 531)) (placesIn places)
+  pub corrected : Corrected (r .message) (r .marks) (lineOf (r .entry) v .address) (length (placesIn places)) (buffers output places)
+  pub numbered : Numbered places (placesIn places)
+  pub few : length (placesIn places) ≤ 12
   pub format : formatOf output ≡ expected (getD (inForce (eventsBy v)) (r .entry) noAsk .request)
 
 -- a reply that is refused prints its number alone

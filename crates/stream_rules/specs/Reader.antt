@@ -2,7 +2,7 @@
 -- numbers are read off the lines. Nothing here knows the station but through the lines that a record prints.
 use Prim.Native.Nat.{ℕ, zero, suc}
 use mathlib.Core.List.{List, [], _∷_, _++_, map}
-use mathlib.Core.Bool.{not}
+use mathlib.Core.Bool.{Bool, not, _&&_}
 use lib.Dec.{eqb}
 use lib.ListN.{length, getD, take, drop}
 use Rattle.lists.specs.Lists.{pick, filter}
@@ -72,15 +72,19 @@ shownTo s zero = []
 shownTo s (suc k) = seen s (foundAfter s k) (recordLines s k) (shownTo s k)
 
 -- ---- the same, read off a whole transcript
--- how many lines of six numbers stand first: those of a plan's entries
-unfoldable pub sixes : List (List ℕ) → ℕ
-sixes [] = 0
-sixes (l ∷ ls) = let n = sixes ls in pick (eqb (length l) 6) (suc n) 0
+-- the line of an entry has six numbers, and the third is an address, "1 to 16,777,214"; on the line of a taken reply with one place it is the answer 0
+abbrev pub isEntry : List ℕ → Bool
+isEntry l = eqb (length l) 6 && not (eqb (getD l 2 0) 0)
+
+-- how many lines of entries stand first
+unfoldable pub entriesFirst : List (List ℕ) → ℕ
+entriesFirst [] = 0
+entriesFirst (l ∷ ls) = let n = entriesFirst ls in pick (isEntry l) (suc n) 0
 
 -- how many lines a record has: its own; "a plan adds lines"; "a taken report adds a line"
 abbrev pub countBy : {c : Call} → Prints c → List (List ℕ) → ℕ
 countBy plain ls = 1
-countBy (ofPlan tag) ls = suc (sixes (drop 1 ls))
+countBy (ofPlan tag) ls = suc (entriesFirst (drop 1 ls))
 countBy (ofReply r) ls = 1
 countBy (ofReport a) ls = pick (eqb (answerOn ls) 0) 2 1
 
@@ -178,7 +182,7 @@ lineOf e v = getD (knownBy v .lines) e (record { unit = 0; address = 0; start = 
 -- ---- what a caller of the station would have seen, found by the reader
 -- what the entries of a plan ask is told by its lines; the corrected message of a taken reply is the one that its marks allow over the entry's address
 abbrev pub correctedIn : List Effect → Received → List ℕ
-correctedIn es r = flippedBy (r .message) (matchesFor (getD (inForce es) (r .entry) noAsk .request) r) .output
+correctedIn es r = flippedBy (r .message) (matchesFor (getD (inForce es) (r .entry) noAsk .request) r) .buffers .output
 
 abbrev pub eventFor : List Effect → Known → Call → ℕ → List EntryShown → Effect
 eventFor es k c n ls = seenAs n (effectBy (λ tag. map askOf (boardBy k ls .placed)) (correctedIn es) c)

@@ -25,9 +25,10 @@ streamOf input = take 65536 input
 abbrev pub bytesAt : List ℕ → ℕ → ℕ → List ℕ
 bytesAt s at n = take n (drop at s)
 
--- a reply: entry, tag 4, message and marks of m bytes each; it is lent as many zeros
+-- a reply: entry, tag 4, message and marks of m bytes each; it is lent as many zeros, twice
 abbrev pub replyOf : List ℕ → ℕ → ℕ → Call
-replyOf s b m = reply (received (getD s b 0) (numberAt s (b + 1) 4) (bytesAt s (b + 5) m) (bytesAt s (b + 5 + m) m) (replicate m 0))
+replyOf s b m =
+    reply (received (getD s b 0) (numberAt s (b + 1) 4) (bytesAt s (b + 5) m) (bytesAt s (b + 5 + m) m) (replicate m 0) (replicate m 0))
 
 -- the call that a whole record of a kind spells with its body at a place: 1 setup; 2 new target; 3 remove; 4 request; 5 plan; 6 short
 -- reply, of 7 bytes; 7 long reply, of 14; 8 report; 9 move. No record of another kind is whole
@@ -43,7 +44,7 @@ callOf s kind b =
     (pick (eqb kind 8) (report (addressAt s b))
     (move (edgesAt s b .address) (edgesAt s b .near) (edgesAt s b .far)))))))))
 
--- ---- what a call prints beside its number: nothing; the entries of a plan; flips and delay of a reply; what a report tells
+-- ---- what a call prints beside its number: nothing; the entries of a plan; flips, delay and places of a reply; what a report tells
 pub data Prints : Call → Type 0 where
   plain : {c : Call} → Prints c
   ofPlan : (tag : ℕ) → Prints (plan tag)

@@ -4,6 +4,7 @@ use mathlib.Core.List.{List, [], _++_}
 use lib.Dec.{eqb}
 use lib.ListN.{take, drop, replicate}
 use Rattle.lists.specs.Lists.{pick}
+use Rattle.parity_rules.specs.Places.{placesIn}
 use Rattle.reader_rules.specs.Records.{messageLength}
 use Rattle.reader_rules.specs.Fields.{setupAt, edgesAt, addressAt, requestAt, tagAt, replyAt}
 use Rattle.station_rules.specs.declared.state.Station.{Station}
@@ -32,11 +33,11 @@ refusedAt n kind number st = record { lines = answerLine n kind number; station 
 abbrev pub plannedTo : ℕ → Station → Obeyed
 plannedTo n st = record { lines = answerLine n 5 0 ++ entryLines 0 (entriesOf (st .plan)); station = st }
 
--- "a taken reply adds flips and delay on that line"
+-- "a taken reply adds flips and delay on that line", and the numbers of the flipped bits
 abbrev pub repliedTo : ℕ → ℕ → Replied → Obeyed
 repliedTo n kind r =
     record {
-      lines = pick (eqb (r .number) 0) (replyLine n kind (r .flips) (r .delay)) (answerLine n kind (r .number));
+      lines = pick (eqb (r .number) 0) (replyLine n kind (r .flips) (r .delay) (placesIn (r .buffers .places))) (answerLine n kind (r .number));
       station = r .station;
     }
 
@@ -49,11 +50,11 @@ reportedTo n st r =
 abbrev pub partOf : List ℕ → ℕ → ℕ → List ℕ
 partOf s from to = take (to - from) (drop from s)
 
--- a reply with its message and marks, which are parts of the stream, and the buffer that it is lent for the corrected message
+-- a reply with its message and marks, which are parts of the stream, and the buffer that it is lent twice, for the corrected message and for the places
 abbrev pub replyTo : List ℕ → ℕ → ℕ → Station → List ℕ → Replied
-replyTo s kind b st out =
+replyTo s kind b st lent =
     let q = replyAt s kind b in
-    replied st (received (q .entry) (q .tag) (partOf s (q .message) (q .marks)) (partOf s (q .marks) (q .end)) out)
+    replied st (received (q .entry) (q .tag) (partOf s (q .message) (q .marks)) (partOf s (q .marks) (q .end)) lent lent)
 
 -- the buffer: zeros, as many as the message has bytes
 abbrev pub zeros : ℕ → List ℕ

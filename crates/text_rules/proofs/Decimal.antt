@@ -10,7 +10,7 @@ use lib.Dec.{ltb}
 use borrow.Author.Tests.{lt-ltb, le-ltb, ltb-true, ltb-false}
 use Rattle.lists.specs.Lists.{pick, All}
 use Rattle.lists.proofs.Held.{all-nil, all-snoc}
-use Rattle.text_rules.specs.Put.{decimalIn, decimal}
+use Rattle.text_rules.specs.Put.{decimalIn, decimal, numbersBehind}
 use Rattle.text_rules.specs.Number.{valueAfter}
 
 enough : (j k n : ℕ) → n ≤ j → n ≤ k → decimalIn j n ≡ decimalIn k n
@@ -48,6 +48,12 @@ decimal-length (suc k) n h = by-test k n (ltb n 10) refl h (decimal-length k)
 -- a number of 32 bits has at most ten
 pub decimal-fits : (n : ℕ) → n < 4294967296 → length (decimal n) ≤ 10
 decimal-fits n h = decimal-length 9 n (omega arith)
+
+-- numbers of three digits behind a text: four bytes each
+pub behind-short : (ns : List ℕ) → All (λ n. n < 1000) ns → length (numbersBehind ns) ≤ 4 * length ns
+unfolding All numbersBehind
+behind-short [] h = omega arith
+behind-short (n ∷ ns) h = simp length-append (omega (arith, decimal-length 2 n (h .0), behind-short ns (h .1)))
 
 -- ---- a number is read back
 

@@ -7,7 +7,7 @@ use mathlib.Core.List.{List, [], _∷_, map}
 use mathlib.Core.Option.{some, none}
 use lib.IntN.{pos, negsuc}
 use lib.ListN.{replicate}
-use Rattle.text_rules.specs.Put.{decimalIn, decimal, laid, Put}
+use Rattle.text_rules.specs.Put.{decimalIn, decimal, numbersBehind, laid, Put}
 use Rattle.text_rules.specs.Signed.{signedDecimal, upward, downward, integerOf}
 use Rattle.text_rules.specs.Line.{blank, inWord, newline, inLine, grown, parts, full, linesOf, wordsOf, sameAs, front, runEnd}
 use Rattle.text_rules.specs.Line.{lineEnd, lineAfter, lineAt, lineSpan, wordAt, nthAt, within, NthWord}
@@ -35,6 +35,11 @@ unfolding laid
 cut = record { next = refl; text = refl }
 
 -- ---- made
+
+-- numbers behind a text, in their order
+three-behind : numbersBehind (1 ∷ 31 ∷ 111 ∷ []) ≡ plain " 1 31 111"
+unfolding numbersBehind decimal decimalIn
+three-behind = refl
 
 zero-is-0 : decimal 0 ≡ plain "0"
 unfolding decimal decimalIn

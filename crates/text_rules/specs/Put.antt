@@ -24,3 +24,8 @@ decimalIn (suc k) n = let more = decimalIn k (n / 10) in pick (ltb n 10) [] more
 -- n in decimal
 unfoldable pub decimal : ℕ → List ℕ
 decimal n = decimalIn n n
+
+-- numbers behind a text: a space (32) and the number, for each
+unfoldable pub numbersBehind : List ℕ → List ℕ
+numbersBehind [] = []
+numbersBehind (n ∷ ns) = (32 ∷ decimal n) ++ numbersBehind ns

@@ -13,6 +13,7 @@ use Rattle.text_rules.specs.Line.{blank, newline, grown, parts, full, linesOf, 
 use Rattle.text_rules.specs.Number.{valueAfter}
 use Rattle.parity_rules.specs.Messages.{bits, xorBits}
 use Rattle.parity_rules.specs.Division.{shiftIn, divide, remainderOf, syndrome}
+use Rattle.parity_rules.specs.Places.{placesFrom}
 use Rattle.parity_rules.specs.Correction.{sizeOf, subsets, xorOf, matching, flipped}
 use Rattle.planner_rules.specs.declared.request.Request.{Request}
 use Rattle.planner_rules.specs.Exchange.{sentFor, replyFor, apart, clear}
@@ -35,7 +36,7 @@ use Rattle.stream_rules.specs.Lines.{line, answerLine, replyLine, entryLine, en
 use Rattle.stream_rules.specs.Step.{obeyed}
 use Rattle.stream_rules.specs.Run.{obeyedAt, goesOn, textFrom, transcript}
 use Rattle.stream_rules.specs.Spelled.{callOf, called, placeOf, callsOf}
-use Rattle.stream_rules.specs.Reader.{Shown, numbersOn, answerOn, shownIn, sixes, readOne, readTo, askedKnown, knownBy, lineOf, eventsBy}
+use Rattle.stream_rules.specs.Reader.{Shown, numbersOn, answerOn, shownIn, entriesFirst, readOne, readTo, askedKnown, knownBy, lineOf, eventsBy}
 
 -- a request of a unit for an address, by UF and RR, other fields zero
 abbrev asks : ℕ → ℕ → ℕ → ℕ → Request
@@ -82,7 +83,7 @@ abbrev prints : List ℕ
 prints =
     plain "1 1 0\n2 2 0\n3 2 0\n4 4 0\n5 4 0\n"
     ++ plain "6 5 0\n0 0 1 0 2530 2798\n1 0 2 79 609 1101\n"
-    ++ plain "7 6 0 2 2005\n8 7 0 0 -1\n"
+    ++ plain "7 6 0 2 2005 32 49\n8 7 0 0 -1\n"
     ++ plain "9 8 0\n1234 0 - -\n10 9 0\n11 6 8\n12 3 0\n13 8 4\n14 5 0\n"
     ++ plain "15 8 0\n- - 4321 1\n16 9 4\n"
 
@@ -92,7 +93,7 @@ unfolding checked every countOf indexOf filter over total decimalIn decimal sign
     plans.plan headOf drawn selectiveRanged bodyLength messageLength numberAt recordAt eightAt state.beforeSetup state.emptied setUp targetRanged
     requestRanged unitFull newTarget without removed moved requested reported asked boardFor nextPlan expected valueIn startOf inWindow targetsHeard
     afterReply settled replied line answerLine replyLine entryLine entryLines valueWord ageWord reportLine obeyed obeyedAt goesOn nextPlace textFrom
-    transcript
+    transcript placesFrom
 runs = refl
 
 -- the calls that it spells, the newest first
@@ -103,11 +104,11 @@ spells :
     ∷ plan 0
     ∷ report 1
     ∷ remove 1
-    ∷ reply (received 0 2486 (32 ∷ 0 ∷ 4 ∷ 210 ∷ 188 ∷ 41 ∷ 61 ∷ []) (replicate 7 0) (replicate 7 0))
+    ∷ reply (received 0 2486 (32 ∷ 0 ∷ 4 ∷ 210 ∷ 188 ∷ 41 ∷ 61 ∷ []) (replicate 7 0) (replicate 7 0) (replicate 7 0))
     ∷ move 1 1000 1004
     ∷ report 1
-    ∷ reply (received 1 559 (168 ∷ 0 ∷ 16 ∷ 225 ∷ 1 ∷ 2 ∷ 3 ∷ 4 ∷ 5 ∷ 6 ∷ 7 ∷ 123 ∷ 219 ∷ 49 ∷ []) (replicate 14 0) (replicate 14 0))
-    ∷ reply (received 0 2486 (32 ∷ 0 ∷ 4 ∷ 211 ∷ 188 ∷ 41 ∷ 189 ∷ []) (0 ∷ 0 ∷ 0 ∷ 1 ∷ 64 ∷ 0 ∷ 128 ∷ []) (replicate 7 0))
+    ∷ reply (received 1 559 (168 ∷ 0 ∷ 16 ∷ 225 ∷ 1 ∷ 2 ∷ 3 ∷ 4 ∷ 5 ∷ 6 ∷ 7 ∷ 123 ∷ 219 ∷ 49 ∷ []) (replicate 14 0) (replicate 14 0) (replicate 14 0))
+    ∷ reply (received 0 2486 (32 ∷ 0 ∷ 4 ∷ 211 ∷ 188 ∷ 41 ∷ 189 ∷ []) (0 ∷ 0 ∷ 0 ∷ 1 ∷ 64 ∷ 0 ∷ 128 ∷ []) (replicate 7 0) (replicate 7 0))
     ∷ plan 4294967246
     ∷ request (asks 0 2 21 16)
     ∷ request (asks 0 1 4 0)
@@ -135,7 +136,7 @@ reads-answers = refl
 reads-off :
     map (λ (x : Shown). x .number) (readTo every-kind prints 16 .shown)
     ≡ 4 ∷ 0 ∷ 0 ∷ 4 ∷ 0 ∷ 8 ∷ 0 ∷ 0 ∷ 0 ∷ 0 ∷ 0 ∷ 0 ∷ 0 ∷ 0 ∷ 0 ∷ 0 ∷ []
-unfolding blank newline grown parts full linesOf wordsOf valueAfter checked bodyLength recordAt nextPlace placeOf callOf sixes readOne readTo
+unfolding blank newline grown parts full linesOf wordsOf valueAfter checked bodyLength recordAt nextPlace placeOf callOf entriesFirst readOne readTo
 reads-off = refl
 
 -- from calls and printed numbers written down by hand
@@ -152,8 +153,8 @@ before-the-plan =
 
 abbrev to-the-long-reply : List Shown
 to-the-long-reply =
-    done (reply (received 1 559 (168 ∷ 0 ∷ 16 ∷ 225 ∷ 1 ∷ 2 ∷ 3 ∷ 4 ∷ 5 ∷ 6 ∷ 7 ∷ 123 ∷ 219 ∷ 49 ∷ []) (replicate 14 0) (replicate 14 0)))
-    (done (reply (received 0 2486 (32 ∷ 0 ∷ 4 ∷ 211 ∷ 188 ∷ 41 ∷ 189 ∷ []) (0 ∷ 0 ∷ 0 ∷ 1 ∷ 64 ∷ 0 ∷ 128 ∷ []) (replicate 7 0)))
+    done (reply (received 1 559 (168 ∷ 0 ∷ 16 ∷ 225 ∷ 1 ∷ 2 ∷ 3 ∷ 4 ∷ 5 ∷ 6 ∷ 7 ∷ 123 ∷ 219 ∷ 49 ∷ []) (replicate 14 0) (replicate 14 0) (replicate 14 0)))
+    (done (reply (received 0 2486 (32 ∷ 0 ∷ 4 ∷ 211 ∷ 188 ∷ 41 ∷ 189 ∷ []) (0 ∷ 0 ∷ 0 ∷ 1 ∷ 64 ∷ 0 ∷ 128 ∷ []) (replicate 7 0) (replicate 7 0)))
     (record { call = plan 4294967246; number = 0; entries = shows 0 1 0 ∷ shows 0 2 79 ∷ [] } ∷ before-the-plan))
 
 abbrev to-the-end : List Shown
@@ -161,7 +162,7 @@ to-the-end =
     done (plan 0)
     (record { call = report 1; number = 4; entries = [] }
     ∷ done (remove 1)
-    (record { call = reply (received 0 2486 (32 ∷ 0 ∷ 4 ∷ 210 ∷ 188 ∷ 41 ∷ 61 ∷ []) (replicate 7 0) (replicate 7 0)); number = 8; entries = [] }
+    (record { call = reply (received 0 2486 (32 ∷ 0 ∷ 4 ∷ 210 ∷ 188 ∷ 41 ∷ 61 ∷ []) (replicate 7 0) (replicate 7 0) (replicate 7 0)); number = 8; entries = [] }
     ∷ done (move 1 1000 1004) (done (report 1) to-the-long-reply)))
 
 -- AC and ID of 1, then of 2, and AC of 1 after its removal

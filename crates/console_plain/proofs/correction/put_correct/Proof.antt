@@ -20,6 +20,8 @@ put-correct-spec =
     (λ c. search lent)
     (λ c. search lent)
     (λ c. search lent)
+    (λ c. search lent)
+    (λ c. search lent)
     (λ c κs. search lent)
     (λ c. search needs)
     (λ c. search (by-words, lent) depth 12))

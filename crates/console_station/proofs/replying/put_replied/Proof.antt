@@ -1,4 +1,4 @@
--- `put_replied` lays the three values, or the refusal.
+-- `put_replied` lays the values of a taken reply, or the refusal.
 use native.Mathlib.Omega.{arith}
 use mir.Syntax.{w32}
 use mir.Val.{SFits}
@@ -13,8 +13,11 @@ taken c =
     let start : tie.Start = search in
     let r = start .args .r in
     let fits : SFits w32 (r .delay) = search needs in
-    let p = c .before .before .put-values .ensures in
-    reply-taken r _ (search) (search needs) (omega arith) fits (rw (toZ-ofZ w32 (r .delay) fits) at p)
+    let laid : tie.After-put-values = search in
+    let else1 : tie.Else1 = search in
+    let zero = else1 .if1 .left in
+    let pre = start .pre in
+    reply-taken r _ zero (pre .0) (pre .1) (pre .2 zero) (omega arith) fits (rw (toZ-ofZ w32 (r .delay) fits) at (laid .put-values .ensures))
 
 pub put-replied-spec : {M : Type 1} → statement M
 put-replied-spec =

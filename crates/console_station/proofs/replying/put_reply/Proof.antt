@@ -20,6 +20,8 @@ put-reply-spec =
     (λ c. search lent)
     (λ c. search lent)
     (λ c. search lent)
+    (λ c. search lent)
+    (λ c. search lent)
     (λ c κs. search (lent, few-lent))
     (λ c. search needs)
     (λ c. search (reply-read, lent) depth 12))

@@ -11,15 +11,20 @@ on-trial-spec =
     (λ c κs. search needs)
     (λ c κs. search needs)
     (λ c. search needs)
+    (λ c. search needs)
     (λ c. search trial-refused)
     (λ c κs. search needs)
+    (λ c. search needs)
     (λ c. search needs)
     (λ c. search trial-other)
     (λ c κs. search needs)
     (λ c. search needs)
+    (λ c. search needs)
     (λ c.
-    let f = c .before .before in
-    let e = f .before .before in
-    let x = e .before .before .before .before in
-    trial-taken _ _ _ _ _ _ (x .correct .result) _ (x .correct .ensures) (e .before .number .result) (e .before .number .ensures) (e .if1 .left)
-    (f .format-of .result) (f .format-of .ensures) (c .before .if2 .left) (c .flips .result) (c .flips .ensures)))
+    let fixed : tie.After-correct = search in
+    let told : tie.After-number = search in
+    let right : tie.Else1 = search in
+    let read : tie.After-format-of = search in
+    let same : tie.Else2 = search in
+    trial-taken _ _ _ _ _ _ (fixed .correct .result) _ (fixed .correct .ensures) (told .number .result) (told .number .ensures) (right .if1 .left)
+    (read .format-of .result) (read .format-of .ensures) (same .if2 .left) (c .flips .result) (c .flips .ensures)))

@@ -16,7 +16,7 @@ use Rattle.station.proofs.replies.take_reply.Tie as tie
 
 -- ---- what is known where the entry is judged
 abbrev start : tie.After-sized → tie.Start
-start c = c .before .before .before .before
+start c = c .before .before .before .before .before
 
 abbrev right : tie.After-entry-count → tie.Else1
 right c = c .before .before
@@ -28,9 +28,10 @@ abbrev came : tie.After-judge-entry → tie.Start
 came c = start (right (counted c .before) .before)
 
 abbrev reply : tie.After-judge-entry → Received
-reply c = let a = came c .args in received (a .entry) (a .tag) (a .msg .now) (a .marks .now) (a .out .now)
+reply c = let a = came c .args in received (a .entry) (a .tag) (a .msg .now) (a .marks .now) (a .out .now) (a .places .now)
 
-sizes : (c : tie.Else1) → let a = start (c .before) .args in sized (length (a .msg .now)) (length (a .marks .now)) (length (a .out .now)) ≡ true
+sizes : (c : tie.Else1) → let a = start (c .before) .args in
+    sized (length (a .msg .now)) (length (a .marks .now)) (length (a .out .now)) (length (a .places .now)) ≡ true
 sizes c = told-on (c .before .sized .ensures) (c .if1 .left)
 
 listed : (c : tie.Else2) → let a = start (right (c .before) .before) .args in a .entry < length (entriesOf (a .s .plan))
@@ -59,24 +60,27 @@ take-reply-spec =
     (λ c κs. search needs)
     (λ c κs. search needs)
     (λ c.
-    let k = c .before .before in
+    let k : tie.After-judge-entry = search in
+    let no : tie.Then3 = search in
     let e = counted k in
-    entry-refused (came k .args .s) (reply k) (k .judge-entry .result) (sizes (right (e .before))) (listed e) (number k) (c .before .if3 .taken) _
+    entry-refused (came k .args .s) (reply k) (k .judge-entry .result) (sizes (right (e .before))) (listed e) (number k) (no .if3 .taken) _
     (c .refused3 .ensures))
     (λ c κs.
-    let k = c .before .before in
+    let k : tie.After-judge-entry = search in
+    let left : tie.Else3 = search in
     let e = counted k in (
       sizes (right (e .before)),
       (
         listed e,
-        entry-window (came k .args .s) (reply k) (k .judge-entry .result) (sizes (right (e .before))) (listed e) (number k) (c .before .if3 .left),
+        entry-window (came k .args .s) (reply k) (k .judge-entry .result) (sizes (right (e .before))) (listed e) (number k) (left .if3 .left),
       ),
     ))
     (λ c. search needs)
+    (λ c. search needs)
     (λ c.
-    let t = c .before .before in
-    let b = t .before .before in
-    let k = b .before in
+    let k : tie.After-judge-entry = search in
+    let left : tie.Else3 = search in
+    let t : tie.After-settle = search in
     let e = counted k in
     t .settle .ensures
-    ∙ entry-passed (came k .args .s) (reply k) (k .judge-entry .result) (sizes (right (e .before))) (listed e) (number k) (b .if3 .left)))
+    ∙ entry-passed (came k .args .s) (reply k) (k .judge-entry .result) (sizes (right (e .before))) (listed e) (number k) (left .if3 .left)))

@@ -1,9 +1,12 @@
--- `put_reply_answer` lays four numbers and the delay with its sign.
+-- `put_reply_answer` lays four numbers, the delay with its sign, and the places.
+use Prim.Native.Nat.{_≤_}
 use native.Mathlib.Omega.{arith}
+use lib.ListN.{length}
 use mir.Syntax.{w32}
 use mir.ValLaws.{toZ-ofZ}
-use Rattle.stream_rules.specs.Lines.{line, replyLine}
-use Rattle.stream.proofs.Lengths.{within, within-then, signed-short}
+use Rattle.places.proofs.Laying.{told-whole}
+use Rattle.stream_rules.proofs.Placed.{reply-line, places-short}
+use Rattle.stream.proofs.Lengths.{within, within-then, within-of, signed-short}
 use borrow.Author.Needs.{needs}
 use Rattle.stream.proofs.answers.put_reply_answer.Statement.{statement}
 use Rattle.stream.proofs.answers.put_reply_answer.Tie as tie
@@ -23,13 +26,25 @@ put-number-requires-4 c κs = search needs
 put-signed-requires : tie.Need-put-signed-requires
 put-signed-requires c κs = search needs
 
+put-places-requires : tie.Need-put-places-requires
+put-places-requires c κs = search needs
+
 put-byte-requires : tie.Need-put-byte-requires
 put-byte-requires c κs = search needs
 
 same-length : tie.Need-same-length
 same-length c = search needs
 
--- each number's place from that of the next
+-- each part's place from that of the next
+abbrev to-places : tie.After-put-byte → tie.After-put-places
+to-places c = search
+
+abbrev to-signed : tie.After-put-places → tie.After-put-signed
+to-signed c = search
+
+abbrev to-fourth : tie.After-put-signed → tie.After-put-number4
+to-fourth c = search
+
 abbrev to-third : tie.After-put-number4 → tie.After-put-number3
 to-third c = search
 
@@ -40,20 +55,28 @@ abbrev to-first : tie.After-put-number2 → tie.After-put-number
 to-first c = search
 
 returns : tie.Need-returns
-unfolding line replyLine
 returns c =
-    let fits = c .before .before .before .before .before .before .before .before .before .before .before .before .before .before .before .before .before
-    .before .before .before .before .before .before .before .before .fits .delay in
-    let e = c .before .before .before .before .before .before .put-signed .ensures in
-    let fourth : tie.After-put-number4 = search in
+    let last : tie.After-put-byte = search in
+    let placed = to-places last in
+    let signed = to-signed placed in
+    let fourth = to-fourth signed in
     let third = to-third fourth in
     let second = to-second third in
     let first = to-first second in
-    within-then (first .put-number .ensures)
+    let start : tie.Start = search in
+    let a = start .args in
+    let fits = start .fits .delay in
+    let room : length (a .places .now) ≤ 124 = omega (arith, start .pre .0) in
+    let many = places-short (a .places .now) room in
+    let e = signed .put-signed .ensures in
+    let ps = told-whole _ room (placed .put-places .ensures) in
+    within-of (reply-line _ _ _ _ _)
+    (within-then (first .put-number .ensures)
     (within-then (second .put-number2 .ensures)
     (within-then (third .put-number3 .ensures)
     (within-then (fourth .put-number4 .ensures)
-    (within-then (within 11 (signed-short _ fits) (rw (toZ-ofZ w32 _ fits) at e)) (within 1 (omega arith) (c .before .before .put-byte .ensures))))))
+    (within-then (within 11 (signed-short _ fits) (rw (toZ-ofZ w32 _ fits) at e))
+    (within-then (within 48 (omega (arith, many, start .pre .1)) ps) (within 1 (omega arith) (last .put-byte .ensures))))))))
 
 pub put-reply-answer-spec : {M : Type 1} → statement M
 put-reply-answer-spec =
@@ -64,6 +87,7 @@ put-reply-answer-spec =
     put-number-requires-3
     put-number-requires-4
     put-signed-requires
+    put-places-requires
     put-byte-requires
     same-length
     returns)
