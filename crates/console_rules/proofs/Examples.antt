@@ -75,11 +75,10 @@ parity-lines :
     × Prints "correct 8000000200000000000000000002 8000000200000000000000000002 0 2" "11\n"
     × Prints "correct 0000000000000000000000000000 0000000000000000000000000002 2 5" "0 0000000000000000000000000002 1 111\n"
     × Prints "correct 0000000000000000000000000000 8000000200000000000000000002 2 5" "0 0000000000000000000000000002 1 111\n"
-    × Prints "correct 0000000000000000000000000000 8000000200000000000000000002 0 5" "0 0000000000000000000000000000 0\n"
 unfolding Reading filter checked remainderAnswer uplinkOverlay answerText doneText refusalText decimal decimalIn hexIn hexOf hexDigit bits shiftIn divide
     remainderOf lowBits times overlayOf syndrome sizeOf subsets xorOf matching flipped correction reckonedText correctedText remainderText overlayText
     fixedText correctText placesFrom numbersBehind
-parity-lines = (refl, refl, refl, refl, refl, refl, refl, refl, refl, refl, refl, refl, refl)
+parity-lines = (refl, refl, refl, refl, refl, refl, refl, refl, refl, refl, refl, refl)
 
 -- ---- interrogations built: the fields by their bit numbers, the address over the uplink; 2 for another UF, 1 for an MA not of seven bytes
 building-lines :

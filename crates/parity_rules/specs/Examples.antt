@@ -2,9 +2,9 @@
 -- definitions give beside what the paper gives.
 use Prim.Native.Nat.{ℕ, _-_, _/_, _%_, _^_}
 use mathlib.Core.Path.{refl}
-use mathlib.Core.List.{List, [], _∷_}
+use mathlib.Core.List.{List, [], _∷_, _++_}
 use lib.Bits.{bitXor}
-use lib.ListN.{getD, replicate, set}
+use lib.ListN.{length, getD, replicate, set}
 use Rattle.lists.specs.Listing.{Row, row, Agrees, _also_}
 use Rattle.lists.specs.Lists.{filter}
 use Rattle.lists.specs.Checks.{checked}
@@ -43,17 +43,18 @@ before = replicate 14 255
 abbrev lent : Buffers
 lent = buffers before (replicate 14 254)
 
--- a correction's number, its flips and its output
+-- a correction's number, its flips, the numbers of the places that it tells, and what the two buffers then hold
 abbrev corrected : List ℕ → List ℕ → ℕ → ℕ → List ℕ
 corrected msg marks overlay limit =
-    let c = correction msg marks overlay limit lent in c .number ∷ c .flips ∷ c .buffers .output
+    let c = correction msg marks overlay limit lent in
+    c .number ∷ c .flips ∷ (placesTold c ++ (c .buffers .output ++ c .buffers .places))
 
--- what its places then hold, and the numbers of the places that it tells
-abbrev placesAfter : List ℕ → List ℕ → ℕ → ℕ → List ℕ
-placesAfter msg marks overlay limit = correction msg marks overlay limit lent .buffers .places
+-- taken: the places' numbers, the message and the places; refused: the buffers as they were
+abbrev taken : List ℕ → List ℕ → List ℕ → List ℕ
+taken ps msg places = 0 ∷ length ps ∷ (ps ++ (msg ++ places))
 
-abbrev told : List ℕ → List ℕ → ℕ → ℕ → List ℕ
-told msg marks overlay limit = placesTold (correction msg marks overlay limit lent)
+abbrev refused : ℕ → List ℕ
+refused n = n ∷ 0 ∷ (lent .output ++ lent .places)
 
 -- an uplink overlay's value
 abbrev uplink : ℕ → ℕ
@@ -92,10 +93,10 @@ abbrev pub listing : List Row
 listing =
     row (long 1 ∷ long 31 ∷ long 111 ∷ []) (0x3935EA ∷ 0xFDB444 ∷ 0x000002 ∷ [])
     ∷ row (bitXor (bitXor (long 1) (long 31)) (long 111) ∷ []) (0xC481AC ∷ [])
-    ∷ row (corrected three three 0 5) (0 ∷ 3 ∷ zeros)
-    ∷ row (corrected three two 0 5) (12 ∷ 0 ∷ before)
-    ∷ row (corrected three three 0 2) (11 ∷ 0 ∷ before)
-    ∷ row (corrected zeros last 0x000002 5) (0 ∷ 1 ∷ last)
+    ∷ row (corrected three three 0 5) (taken (1 ∷ 31 ∷ 111 ∷ []) zeros three)
+    ∷ row (corrected three two 0 5) (refused 12)
+    ∷ row (corrected three three 0 2) (refused 11)
+    ∷ row (corrected zeros last 0x000002 5) (taken (111 ∷ []) last last)
     ∷ row (uplink 0x000001 ∷ uplink 0x000002 ∷ uplink 0x000004 ∷ uplink 0x800000 ∷ []) (0x000001 ∷ 0x000003 ∷ 0x000007 ∷ 0xFFFA04 ∷ [])
     ∷ row (divided 6 ∷ divided 7 ∷ divided 8 ∷ divided 13 ∷ divided 14 ∷ divided 15 ∷ []) (1 ∷ 0 ∷ 1 ∷ 1 ∷ 0 ∷ 1 ∷ [])
     ∷ row (overlaid 0xFFFFFF ∷ overlaid 0x1000000 ∷ []) (0 ∷ 2 ∷ [])
@@ -106,18 +107,13 @@ listing =
     (1 ∷ 0 ∷ 1 ∷ 1 ∷ 0 ∷ 1 ∷ [])
     ∷ row (withLengths 14 7 14 14 ∷ withLengths 14 14 7 14 ∷ withLengths 14 14 14 7 ∷ withLengths 7 7 7 14 ∷ []) (1 ∷ 1 ∷ 1 ∷ 1 ∷ [])
     ∷ row (withRanges 0xFFFFFF 12 ∷ withRanges 0x1000000 12 ∷ withRanges 0 13 ∷ []) (12 ∷ 2 ∷ 2 ∷ [])
-    ∷ row (corrected three three 0 3) (0 ∷ 3 ∷ zeros)
-    ∷ row (corrected zeros five 0 6) (0 ∷ 0 ∷ zeros)
-    ∷ row (corrected zeros six 0 6) (13 ∷ 0 ∷ before)
-    ∷ row (correction three two 0x1000000 13 (buffers (replicate 7 255) before) .number ∷ corrected three two 0x1000000 1) (1 ∷ 2 ∷ 0 ∷ before)
-    ∷ row (corrected three two 0 1) (11 ∷ 0 ∷ before)
-    ∷ row (placesAfter three three 0 5) three
-    ∷ row (told three three 0 5) (1 ∷ 31 ∷ 111 ∷ [])
-    ∷ row (placesAfter zeros three 0x000002 5) last
-    ∷ row (told zeros three 0x000002 5) (111 ∷ [])
-    ∷ row (placesAfter zeros five 0 6) zeros
-    ∷ row (placesAfter three two 0 5) (lent .places)
-    ∷ row (placesAfter zeros six 0 6) (lent .places)
+    ∷ row (corrected three three 0 3) (taken (1 ∷ 31 ∷ 111 ∷ []) zeros three)
+    ∷ row (corrected zeros five 0 6) (taken [] zeros zeros)
+    ∷ row (corrected zeros six 0 6) (refused 13)
+    ∷ row (correction three two 0x1000000 13 (buffers (replicate 7 255) before) .number ∷ corrected three two 0x1000000 1) (1 ∷ refused 2)
+    ∷ row (corrected three two 0 1) (refused 11)
+    -- of three marked bits one is flipped
+    ∷ row (corrected zeros three 0x000002 5) (taken (111 ∷ []) last last)
     ∷ []
 
 -- the one claim
@@ -127,4 +123,4 @@ unfolding filter checked bits shiftIn divide remainderOf syndrome sizeOf subsets
 corrections-agree =
     refl also refl also refl also refl also refl also refl also refl also refl also refl also refl also
     refl also refl also refl also refl also refl also refl also refl also refl also refl also refl also
-    refl also refl also refl also refl also refl also refl also refl also tt
+    refl also tt

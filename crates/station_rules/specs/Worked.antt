@@ -109,12 +109,14 @@ marked last = 0 ∷ 0 ∷ 0 ∷ 0 ∷ 0 ∷ 0 ∷ last ∷ []
 abbrev at40 : List ℕ
 at40 = 0 ∷ 0 ∷ 0 ∷ 0 ∷ 1 ∷ 0 ∷ 0 ∷ []
 
--- what the places buffer holds after a reply to entry 0 that is in time, with a spare byte in each of its bytes before
+-- the number of a reply to entry 0 that is in time, and what the places buffer, which held 254 in each byte, holds after it
 abbrev spare : List ℕ
 spare = replicate 7 254
 
-abbrev placesAfter : List ℕ → List ℕ → List ℕ
-placesAfter msg marks = replied (after (near-by 100)) (received 0 631 msg marks unmarked spare) .buffers .places
+abbrev answered : List ℕ → List ℕ → List ℕ
+answered msg marks =
+    let r = replied (after (near-by 100)) (received 0 631 msg marks unmarked spare) in
+    r .number ∷ r .buffers .places
 
 -- ---- the rows
 abbrev pub listing : List Row
@@ -149,14 +151,13 @@ listing =
     ∷ row (number (remove 1 ∷ near-by 100) (reply (received 0 631 (replicate 14 0) (replicate 14 0) (replicate 14 0) (replicate 14 0))) ∷ []) (8 ∷ [])
     -- 9: a long message to a short reply's entry, before 10; 10 before 11
     ∷ row (judged 0 629 (replicate 14 0) (replicate 14 0) ∷ judged 0 629 altered (marked 0x3F) ∷ []) (9 ∷ 10 ∷ [])
-    -- 11: six marks where the limit is 5, before 12; 12: the altered bit is not marked; 14: DF 5 where UF 4 draws DF 4
-    ∷ row (judged 0 631 altered (marked 0x3F) ∷ judged 0 631 altered (marked 0x1F) ∷ judged 0 631 altered at40 ∷ []) (11 ∷ 12 ∷ 0 ∷ [])
-    ∷ row (judged 0 631 other unmarked ∷ judged 0 631 good unmarked ∷ []) (14 ∷ 0 ∷ [])
-    -- the flipped places, of the marked ones; a refusal leaves the buffer, 14 as well
-    ∷ row (placesAfter altered (0 ∷ 0 ∷ 0 ∷ 0 ∷ 3 ∷ 0 ∷ 1 ∷ [])) at40
-    ∷ row (placesAfter good at40) unmarked
-    ∷ row (placesAfter altered unmarked) spare
-    ∷ row (placesAfter other unmarked) spare
+    -- 11: six marks where the limit is 5, before 12; 12: the altered bit is not marked; 14: DF 5 where UF 4 draws DF 4. A refusal leaves the places, and
+    -- of three marked bits the altered one is told
+    ∷ row (answered altered (marked 0x3F)) (11 ∷ spare)
+    ∷ row (answered altered (marked 0x1F)) (12 ∷ spare)
+    ∷ row (answered altered (0 ∷ 0 ∷ 0 ∷ 0 ∷ 3 ∷ 0 ∷ 1 ∷ [])) (0 ∷ at40)
+    ∷ row (answered other unmarked) (14 ∷ spare)
+    ∷ row (answered good unmarked) (0 ∷ unmarked)
     -- "all the rest by age": unit 1 asked first; the second exchange is clear when its window, [1530, 1792) after its start, is
     ∷ row (units (plan 0 ∷ waiting)) (1 ∷ 0 ∷ [])
     ∷ row (starts (plan 0 ∷ waiting)) (0 ∷ 262 ∷ [])
@@ -184,4 +185,4 @@ unfolding checked countOf total every indexOf filter over selectiveRanged sentFo
 calls-agree =
     refl also refl also refl also refl also refl also refl also refl also refl also refl also refl also refl also refl also refl also refl also refl also
     refl also refl also refl also refl also refl also refl also refl also refl also refl also refl also refl also refl also refl also refl also refl also
-    refl also refl also refl also refl also refl also refl also refl also tt
+    refl also refl also refl also refl also refl also refl also tt
