@@ -1,7 +1,7 @@
 // What the 13 bits of AC say of the altitude, and the way back.
 
 // What AC says, or why it is refused.
-#[derive(Drop)]
+#[derive(Clone, Copy)]
 pub enum Altitude {
     Feet(i32),
     // No altitude.
@@ -15,7 +15,7 @@ pub enum Altitude {
 }
 
 // The code of an altitude in feet, or that it has none.
-#[derive(Drop)]
+#[derive(Clone, Copy)]
 pub enum Written {
     Code(u32),
     NoCode,

@@ -1,4 +1,5 @@
 // The program console: each line of its input is one call of the library, and is answered before the next is waited for.
+#![tactic(auto)]
 
 fn main() {
     let fd = inputs::open();

@@ -1,4 +1,6 @@
 // The lines of the bench console that make, feed and show the model aircraft, as their very bytes. Their definitions stand in crate console_rules.
+#![tactic(auto)]
+
 mod answers;
 mod lines;
 mod making;

@@ -1,4 +1,5 @@
 // The program console_cases: the console over the file that its one word names, which comes in pieces of one byte.
+#![tactic(auto)]
 
 fn main() {
     let fd = inputs::open();

@@ -1,5 +1,7 @@
 // The bench console: which line a first word names, why a line is not read, and the lines of an input answered one after the other.
 // Their definitions stand in crate console_rules.
+#![tactic(auto)]
+
 mod console;
 mod names;
 mod program;

@@ -1,5 +1,7 @@
 // The lines of the bench console that need no state, as their very bytes: each is one call of the library, and its answer in text.
 // Their definitions stand in crate console_rules.
+#![tactic(auto)]
+
 mod answers;
 mod building;
 mod code;

@@ -1,7 +1,7 @@
 // The lines of the console: their calls, and what each is made of.
 
 // A line without a state.
-#[derive(Drop)]
+#[derive(Clone, Copy)]
 pub enum PlainLine {
     Remainder,
     Overlay,
@@ -18,7 +18,7 @@ pub enum PlainLine {
 }
 
 // A line of the aircraft.
-#[derive(Drop)]
+#[derive(Clone, Copy)]
 pub enum FlightLine {
     Model,
     Queue,
@@ -27,7 +27,7 @@ pub enum FlightLine {
 }
 
 // A line of the station.
-#[derive(Drop)]
+#[derive(Clone, Copy)]
 pub enum StationLine {
     Setup,
     Target,
@@ -42,7 +42,7 @@ pub enum StationLine {
 }
 
 // A call of the console.
-#[derive(Drop)]
+#[derive(Clone, Copy)]
 pub enum Command {
     Plain(PlainLine),
     Flight(FlightLine),
@@ -52,7 +52,7 @@ pub enum Command {
 }
 
 // What belongs at a word of a line: a number, a number that may have a minus sign, or bytes.
-#[derive(Drop)]
+#[derive(Clone, Copy)]
 pub enum Sort {
     Number,
     Integer,
@@ -61,7 +61,7 @@ pub enum Sort {
 
 // A line: whether there is one of its name, its call, how many words stand behind the name, which of them are bytes (two at most) and which
 // may have a minus sign (0 for none; all others are numbers), and whether it needs an aircraft.
-#[derive(Drop)]
+#[derive(Clone, Copy)]
 pub struct Row {
     pub known: bool,
     pub command: Command,
@@ -73,7 +73,7 @@ pub struct Row {
 }
 
 // Why a line is not read, or that it is: the words wanted behind the name, or the number of the word at fault.
-#[derive(Drop)]
+#[derive(Clone, Copy)]
 pub enum Reason {
     Read,
     NoSuchLine,

@@ -1,4 +1,6 @@
 // The lines of the bench console that hand their numbers to the station, as their very bytes. Their definitions stand in crate console_rules.
+#![tactic(auto)]
+
 mod answers;
 mod entries;
 mod held;

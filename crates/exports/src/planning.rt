@@ -6,7 +6,7 @@ ghost use Rattle.exports.specs.Planner.{no_entry, starts_of, numbers_of, rows_of
 use planner_rules::{Ask, Asks, Entry, Request, Setup};
 
 #[repr(C)]
-#[derive(Drop)]
+#[derive(Clone, Copy)]
 pub struct PlanJob {
     pub setup: Setup,
     pub asks: Asks,
@@ -14,7 +14,7 @@ pub struct PlanJob {
 
 // The first placed of the starts, and of the numbers that the requests carry as MA; and how many still wait.
 #[repr(C)]
-#[derive(Drop)]
+#[derive(Clone, Copy)]
 pub struct PlanRows {
     pub placed: usize,
     pub waiting: usize,

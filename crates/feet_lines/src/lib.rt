@@ -1,4 +1,6 @@
 // The lines of the program feet, as their very bytes, and its loop over them. Their definitions stand in crate console_rules.
+#![tactic(auto)]
+
 mod lines;
 mod program;
 

@@ -1,4 +1,6 @@
 // Frames of document 01: interrogations and replies built and read, the codes of DF 11, and the MB bytes as a part of a buffer.
+#![tactic(auto)]
+
 mod addresses;
 mod builders;
 mod bytes;

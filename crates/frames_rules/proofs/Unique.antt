@@ -19,7 +19,7 @@ use Rattle.frames_rules.specs.declared.answers.Down.TheVariants as down
 use Rattle.frames_rules.specs.declared.answers.Code.{Code}
 use Rattle.frames_rules.specs.declared.answers.Code.TheVariants as code
 use Rattle.frames_rules.specs.declared.answers.Interrogator.{Interrogator}
-use Rattle.frames_rules.specs.declared.answers.Interrogator.TheVariants.{II, Si, Nobody}
+use Rattle.frames_rules.specs.declared.answers.Interrogator.TheVariants.{II, SI, Nobody}
 use Rattle.frames_rules.specs.declared.answers.Draws.{Draws}
 use Rattle.frames_rules.specs.declared.answers.Draws.TheVariants as draws
 use Rattle.frames_rules.specs.declared.answers.Address.{Address}
@@ -99,12 +99,12 @@ code_one a b e = sym (code_back a) ∙ ap code_by e ∙ code_back b
 
 -- no value or two: a code; no value or one: a format, an address
 interrogator_by : Answer → Interrogator
-interrogator_by a = pick (eqb (length a.values) 2) (pick (eqb (at a 0) 0) (II (at a 1)) (Si (at a 1))) Nobody
+interrogator_by a = pick (eqb (length a.values) 2) (pick (eqb (at a 0) 0) (II (at a 1)) (SI (at a 1))) Nobody
 
 interrogator_back : (x : Interrogator) → interrogator_by (interrogator_said x) ≡ x
 unfolding interrogator_by at
 interrogator_back (II n) = refl
-interrogator_back (Si n) = refl
+interrogator_back (SI n) = refl
 interrogator_back Nobody = refl
 
 pub interrogator_one : (a b : Interrogator) → interrogator_said a ≡ interrogator_said b → a ≡ b
@@ -145,14 +145,14 @@ unfolding address_told
 address_is remainder x e = address_one x (address_of remainder) e
 
 -- ---- codes
--- "an Si lockout that also locks the II of equal number": they are two codes
-pub ii_not_si : (m n : ℕ) → II m ≡ Si n → ⊥
+-- "an SI lockout that also locks the II of equal number": they are two codes
+pub ii_not_si : (m n : ℕ) → II m ≡ SI n → ⊥
 ii_not_si m n e = let z : ◌≡◌ {A = ℕ} 0 1 = cc in omega arith
 
--- what a CL and an IC stand for: II below 16 with CL 0, Si 1 to 63 with CL 1 to 4, or nobody
+-- what a CL and an IC stand for: II below 16 with CL 0, SI 1 to 63 with CL 1 to 4, or nobody
 pub data Stands (cl ic : ℕ) : Interrogator → Type 0 where
   ii : cl ≡ 0 → ic ≤ 15 → Stands cl ic (II ic)
-  si : 1 ≤ cl → cl ≤ 4 → ic ≤ 15 → (si_number cl ic ≡ 0 → ⊥) → Stands cl ic (Si (si_number cl ic))
+  si : 1 ≤ cl → cl ≤ 4 → ic ≤ 15 → (si_number cl ic ≡ 0 → ⊥) → Stands cl ic (SI (si_number cl ic))
   nobody : Stands cl ic Nobody
 
 not_eqb : (a b : ℕ) → not (eqb a b) ≡ true → a ≡ b → ⊥
@@ -167,7 +167,7 @@ unfolding code_for
 stands cl ic = go (leb ic 15) (eqb cl 0) (of_si cl && not (eqb (si_number cl ic) 0)) refl refl refl
   where
     go : (a b c : Bool) → leb ic 15 ≡ a → eqb cl 0 ≡ b → of_si cl && not (eqb (si_number cl ic) 0) ≡ c
-        → Stands cl ic (pick a (pick b (II ic) (pick c (Si (si_number cl ic)) Nobody)) Nobody)
+        → Stands cl ic (pick a (pick b (II ic) (pick c (SI (si_number cl ic)) Nobody)) Nobody)
     go false b c ea eb ec = nobody
     go true true c ea eb ec = ii (eqb-true cl 0 eb) (leb-true ic 15 ea)
     go true false false ea eb ec = nobody

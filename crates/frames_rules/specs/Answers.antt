@@ -74,10 +74,10 @@ code_said code.Length = refusal 1
 code_said code.Range = refusal 2
 code_said code.Format = refusal 14
 
--- the code that CL and IC stand for: 0 and n for II n, 1 and n for Si n, no value for nobody
+-- the code that CL and IC stand for: 0 and n for II n, 1 and n for SI n, no value for nobody
 abbrev pub interrogator_said : Interrogator → Answer
 interrogator_said (interrogator.II n) = done (0 ∷ n ∷ [])
-interrogator_said (interrogator.Si n) = done (1 ∷ n ∷ [])
+interrogator_said (interrogator.SI n) = done (1 ∷ n ∷ [])
 interrogator_said interrogator.Nobody = done []
 
 -- what a request draws: the DF of its reply, or no value

@@ -3,7 +3,7 @@ use Rattle.std.specs.Prelude.{ℕ, ◌+◌, ◌-◌, ◌*◌, Bool, ◌&&◌, �
 use Rattle.lists.specs.Lists.{pick}
 use Rattle.lists.specs.Answers.{Answer}
 use Rattle.frames_rules.specs.declared.answers.Interrogator.{Interrogator}
-use Rattle.frames_rules.specs.declared.answers.Interrogator.TheVariants.{II, Si, Nobody}
+use Rattle.frames_rules.specs.declared.answers.Interrogator.TheVariants.{II, SI, Nobody}
 use Rattle.frames_rules.specs.declared.answers.Draws.{Draws}
 use Rattle.frames_rules.specs.declared.answers.Draws.TheVariants.{Format, Nothing}
 use Rattle.frames_rules.specs.Answers.{interrogator_said, draws_said}
@@ -14,21 +14,21 @@ use Rattle.frames_rules.specs.Formats.{surveillance}
 abbrev pub code_number : ℕ → ℕ → ℕ
 code_number cl ic = 16 * cl + ic
 
--- "CL 1 to 4" are those of Si
+-- "CL 1 to 4" are those of SI
 abbrev pub of_si : ℕ → Bool
 of_si cl = leb 1 cl && leb cl 4
 
--- "Si = 16×(CL−1)+IC"
+-- "SI = 16×(CL−1)+IC"
 abbrev pub si_number : ℕ → ℕ → ℕ
 si_number cl ic = 16 * (cl - 1) + ic
 
--- "CL 0 is II = IC; CL 1 to 4 is Si = 16×(CL−1)+IC; Si 0 and CL 5 to 7 get no reply"
+-- "CL 0 is II = IC; CL 1 to 4 is SI = 16×(CL−1)+IC; SI 0 and CL 5 to 7 get no reply"
 unfoldable pub code_for : ℕ → ℕ → Interrogator
 code_for cl ic =
     pick (leb ic 15)
     (pick (eqb cl 0)
     (II ic)
-    (pick (of_si cl && not (eqb (si_number cl ic) 0)) (Si (si_number cl ic)) Nobody))
+    (pick (of_si cl && not (eqb (si_number cl ic) 0)) (SI (si_number cl ic)) Nobody))
     Nobody
 
 -- what is answered for them

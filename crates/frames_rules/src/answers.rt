@@ -1,7 +1,7 @@
 // What the public calls answer; specs/Answers.antt has document 01's number and values for each case.
 
 // What became of a frame to be built.
-#[derive(Drop)]
+#[derive(Clone, Copy)]
 pub enum Built {
     // The buffer holds the frame.
     Done,
@@ -12,7 +12,7 @@ pub enum Built {
 }
 
 // An interrogation read alone.
-#[derive(Drop)]
+#[derive(Clone, Copy)]
 pub enum Up {
     // UF 4, 5, 20 or 21; MA is zero for a short one.
     Selective {
@@ -38,7 +38,7 @@ pub enum Up {
 }
 
 // A reply read alone.
-#[derive(Drop)]
+#[derive(Clone, Copy)]
 pub enum Down {
     // DF 4, 5, 20 or 21; the value is AC or ID, and MB is zero for a short one.
     Surveillance {
@@ -63,7 +63,7 @@ pub enum Down {
 }
 
 // Whose code a DF 11 carries.
-#[derive(Drop)]
+#[derive(Clone, Copy)]
 pub enum Code {
     // The station's own.
     Own,
@@ -80,7 +80,7 @@ pub enum Code {
 }
 
 // The code that CL and IC stand for.
-#[derive(Drop)]
+#[derive(Clone, Copy)]
 pub enum Interrogator {
     II(u8),
     SI(u8),
@@ -88,14 +88,14 @@ pub enum Interrogator {
 }
 
 // The format of the reply that a request draws.
-#[derive(Drop)]
+#[derive(Clone, Copy)]
 pub enum Draws {
     Format(u8),
     Nothing,
 }
 
 // The number whose uplink overlay a remainder is.
-#[derive(Drop)]
+#[derive(Clone, Copy)]
 pub enum Address {
     Is(u32),
     Nobody,

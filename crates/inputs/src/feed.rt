@@ -5,7 +5,7 @@ ghost use Rattle.io.specs.Counts.{IsPrefixLen};
 
 // Where the reading stands: the descriptor, the bytes of the piece and the place in it, the bytes held of the line, whether they are a whole
 // line, and whether more may come.
-#[derive(Drop)]
+#[derive(Clone, Copy)]
 pub struct Feed {
     pub fd: i32,
     pub got: usize,

@@ -1,4 +1,5 @@
 // The program jerungkal: the first 64 KiB of its input are the stream, and its transcript is printed.
+#![tactic(auto)]
 
 fn main() {
     let fd = inputs::open();

@@ -1,1 +1,2 @@
 // Definitions and laws on lists and tests, for the crates above; no code of its own.
+#![tactic(auto)]

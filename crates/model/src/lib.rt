@@ -1,4 +1,6 @@
 // The transponder model of document 01: made, given messages to queue, and frames to take; lockout and Comm-B.
+#![tactic(auto)]
+
 mod all_calls;
 mod closeouts;
 mod frames_taken;

@@ -13,7 +13,7 @@ use Rattle.lists.specs.Checks.{checked}
 use Rattle.frames_rules.specs.Building.{all_call_reply_ranged, an_all_call_reply, all_call_replying}
 use Rattle.frames_rules.specs.Shared.{of_si, si_number, code_for}
 use Rattle.frames_rules.specs.declared.answers.Interrogator.{Interrogator}
-use Rattle.frames_rules.specs.declared.answers.Interrogator.TheVariants.{II, Si, Nobody}
+use Rattle.frames_rules.specs.declared.answers.Interrogator.TheVariants.{II, SI, Nobody}
 use Rattle.model_rules.specs.declared.state.Sent.{Sent}
 use Rattle.model_rules.specs.declared.state.Transponder.{Transponder}
 use Rattle.model_rules.specs.Lapse.{lapse}
@@ -29,14 +29,14 @@ use Rattle.model_rules.proofs.Responding.{ranges}
 abbrev Coded : ℕ → ℕ → Interrogator → Type 0
 Coded cl ic Nobody = Unit {0}
 Coded cl ic (II n) = ACode (II n) × ((leb cl 7 ≡ true) × (leb ic 15 ≡ true))
-Coded cl ic (Si n) = ACode (Si n) × ((leb cl 7 ≡ true) × (leb ic 15 ≡ true))
+Coded cl ic (SI n) = ACode (SI n) × ((leb cl 7 ≡ true) × (leb ic 15 ≡ true))
 
 coded : (cl ic : ℕ) → Coded cl ic (code_for cl ic)
 unfolding code_for
 coded cl ic = go (leb ic 15) refl (eqb cl 0) refl (of_si cl) refl (eqb (si_number cl ic) 0) refl
   where
     go : (x : Bool) → leb ic 15 ≡ x → (y : Bool) → eqb cl 0 ≡ y → (z : Bool) → of_si cl ≡ z → (w : Bool) → eqb (si_number cl ic) 0 ≡ w
-        → Coded cl ic (pick x (pick y (II ic) (pick (z && not w) (Si (si_number cl ic)) Nobody)) Nobody)
+        → Coded cl ic (pick x (pick y (II ic) (pick (z && not w) (SI (si_number cl ic)) Nobody)) Nobody)
     go false p y q z s w v = tt
     go true p true q z s w v = (leb-true ic 15 p, (ap (λ (n : ℕ). leb n 7) (eqb-true cl 0 q), p))
     go true p false q true s false v =
@@ -71,7 +71,7 @@ module _ (a : Aircraft) (m : (made a).number ≡ 0) (cs : List Call) (time draw 
   answered : (c : Interrogator) → Coded cl ic c → pick (answers_code pr draw called c) answering silence ≡ pick (answers_to a cs time draw pr c) eleven silence
   answered Nobody k = refl
   answered (II n) k = rw (free_is (II n) k.0, built k.1)
-  answered (Si n) k = rw (free_is (Si n) k.0, built k.1)
+  answered (SI n) k = rw (free_is (SI n) k.0, built k.1)
 
   pub told_call : answer_all_call pr ic cl draw called ≡ call_on a cs time draw pr ic cl
   unfolding answer_all_call answers

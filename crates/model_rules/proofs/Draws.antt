@@ -9,7 +9,7 @@ use Rattle.lists.specs.Lists.{pick, count_below}
 use Rattle.lists.proofs.Tests.{and_true, and_yes}
 use Rattle.frames_rules.specs.Shared.{code_for}
 use Rattle.frames_rules.specs.declared.answers.Interrogator.{Interrogator}
-use Rattle.frames_rules.specs.declared.answers.Interrogator.TheVariants.{II, Si, Nobody}
+use Rattle.frames_rules.specs.declared.answers.Interrogator.TheVariants.{II, SI, Nobody}
 use Rattle.model_rules.specs.declared.state.Transponder.{Transponder}
 use Rattle.model_rules.specs.Lockout.{locked_to}
 use Rattle.model_rules.specs.Replies.{draws_below, free, answers_free, answers_code, answers}
@@ -66,7 +66,7 @@ module _ (pr ic cl draw : ℕ) (t : Transponder) (c : Interrogator) (somebody : 
   pub answered_when : free pr c t ≡ true → draw < draws_below pr → answers pr ic cl draw t ≡ true
   answered_when f d = is ∙ and_yes (free pr c t) (ltb draw (draws_below pr)) f (lt-ltb draw (draws_below pr) d)
 
--- an II's or an Si's all-call is answered exactly then
+-- an II's or an SI's all-call is answered exactly then
 pub ii_answered : (pr ic cl draw n : ℕ) (t : Transponder) → code_for cl ic ≡ II n → answers pr ic cl draw t ≡ true
     → (free pr (II n) t ≡ true) × (draw < draws_below pr)
 ii_answered pr ic cl draw n t e h = answered_then pr ic cl draw t (II n) refl e h
@@ -75,15 +75,15 @@ pub ii_answers : (pr ic cl draw n : ℕ) (t : Transponder) → code_for cl ic �
     → answers pr ic cl draw t ≡ true
 ii_answers pr ic cl draw n t e f d = answered_when pr ic cl draw t (II n) refl e f d
 
-pub si_answered : (pr ic cl draw n : ℕ) (t : Transponder) → code_for cl ic ≡ Si n → answers pr ic cl draw t ≡ true
-    → (free pr (Si n) t ≡ true) × (draw < draws_below pr)
-si_answered pr ic cl draw n t e h = answered_then pr ic cl draw t (Si n) refl e h
+pub si_answered : (pr ic cl draw n : ℕ) (t : Transponder) → code_for cl ic ≡ SI n → answers pr ic cl draw t ≡ true
+    → (free pr (SI n) t ≡ true) × (draw < draws_below pr)
+si_answered pr ic cl draw n t e h = answered_then pr ic cl draw t (SI n) refl e h
 
-pub si_answers : (pr ic cl draw n : ℕ) (t : Transponder) → code_for cl ic ≡ Si n → free pr (Si n) t ≡ true → draw < draws_below pr
+pub si_answers : (pr ic cl draw n : ℕ) (t : Transponder) → code_for cl ic ≡ SI n → free pr (SI n) t ≡ true → draw < draws_below pr
     → answers pr ic cl draw t ≡ true
-si_answers pr ic cl draw n t e f d = answered_when pr ic cl draw t (Si n) refl e f d
+si_answers pr ic cl draw n t e f d = answered_when pr ic cl draw t (SI n) refl e f d
 
--- "Si 0 and CL 5 to 7 get no reply"
+-- "SI 0 and CL 5 to 7 get no reply"
 pub nobody_answered : (pr ic cl draw : ℕ) (t : Transponder) → code_for cl ic ≡ Nobody → answers pr ic cl draw t ≡ false
 unfolding answers
 nobody_answered pr ic cl draw t e = rw e

@@ -13,7 +13,7 @@ use Rattle.frames_rules.specs.Interrogations.{up_of}
 use Rattle.frames_rules.specs.declared.answers.Up.{Up}
 use Rattle.frames_rules.specs.declared.answers.Up.TheVariants as up
 use Rattle.frames_rules.specs.declared.answers.Interrogator.{Interrogator}
-use Rattle.frames_rules.specs.declared.answers.Interrogator.TheVariants.{II, Si, Nobody}
+use Rattle.frames_rules.specs.declared.answers.Interrogator.TheVariants.{II, SI, Nobody}
 use Rattle.model_rules.specs.declared.state.Lock.{Lock}
 use Rattle.model_rules.specs.declared.state.Lock.TheVariants.{Never, Since}
 use Rattle.model_rules.specs.declared.state.Timer.{Timer}
@@ -50,7 +50,7 @@ lock_at c t = (get_or t.list (place_of c) idle).lock
 
 in_place : (c : Interrogator) → ACode c → place_of c < 79
 in_place (II n) h = omega (arith, h)
-in_place (Si n) h = let k = h.1 in omega (arith, k)
+in_place (SI n) h = let k = h.1 in omega (arith, k)
 in_place Nobody h = absurd h
 
 -- what a started timer does to the lock of a code: it is that code's, or it changes nothing
@@ -63,7 +63,7 @@ other c time t d n = ap (λ (x : Timer). x.lock) (other_timer d c time t n)
 -- a code that a command may name, or nobody's
 abbrev AStart : Interrogator → Type 0
 AStart (II n) = n ≤ 15
-AStart (Si n) = 1 ≤ n
+AStart (SI n) = 1 ≤ n
 AStart Nobody = Unit {0}
 
 module _ (time : ℕ) (t : Timers) (h : length t.list ≡ 79) where
@@ -73,15 +73,15 @@ module _ (time : ℕ) (t : Timers) (h : length t.list ≡ 79) where
       go : (b : Bool) → eqb n m ≡ b → lock_at (II n) (started m time t) ≡ pick b (Since time) (lock_at (II n) t)
       go true e = rw (← eqb-true n m e) (own (II n) ok time t h)
       go false e = other (II n) time t (II m) (λ q. eqb-false n m e (ii_one m n q))
-  starts (II n) ok (Si m) st = other (II n) time t (Si m) (si_not_ii m n st ok)
-  starts (Si n) ok (II m) st = other (Si n) time t (II m) (λ q. si_not_ii n m ok.0 st (sym q))
-  starts (Si n) ok (Si m) st = go (eqb n m) refl
+  starts (II n) ok (SI m) st = other (II n) time t (SI m) (si_not_ii m n st ok)
+  starts (SI n) ok (II m) st = other (SI n) time t (II m) (λ q. si_not_ii n m ok.0 st (sym q))
+  starts (SI n) ok (SI m) st = go (eqb n m) refl
     where
-      go : (b : Bool) → eqb n m ≡ b → lock_at (Si n) (started (15 + m) time t) ≡ pick b (Since time) (lock_at (Si n) t)
-      go true e = rw (← eqb-true n m e) (own (Si n) ok time t h)
-      go false e = other (Si n) time t (Si m) (λ q. eqb-false n m e (si_one m n q))
+      go : (b : Bool) → eqb n m ≡ b → lock_at (SI n) (started (15 + m) time t) ≡ pick b (Since time) (lock_at (SI n) t)
+      go true e = rw (← eqb-true n m e) (own (SI n) ok time t h)
+      go false e = other (SI n) time t (SI m) (λ q. eqb-false n m e (si_one m n q))
   starts (II n) ok Nobody st = other (II n) time t Nobody (λ q. let k = in_place (II n) ok in omega (arith, k, q))
-  starts (Si n) ok Nobody st = other (Si n) time t Nobody (λ q. let k = in_place (Si n) ok in omega (arith, k, q))
+  starts (SI n) ok Nobody st = other (SI n) time t Nobody (λ q. let k = in_place (SI n) ok in omega (arith, k, q))
   starts Nobody ok d st = absurd ok
 
 -- ---- the commands of a frame
@@ -94,7 +94,7 @@ by_sd di sd =
     of_pick AStart (eqb di 1 || eqb di 7) _ _ (of_pick AStart (eqb (los sd) 1) (II (iis sd)) Nobody (omega arith) tt)
     (of_pick AStart (eqb di 3) _ Nobody (of_pick AStart (eqb (lss sd) 1) _ Nobody (some (eqb (sis sd) 0) refl) tt) tt)
   where
-    some : (b : Bool) → eqb (sis sd) 0 ≡ b → AStart (pick b Nobody (Si (sis sd)))
+    some : (b : Bool) → eqb (sis sd) 0 ≡ b → AStart (pick b Nobody (SI (sis sd)))
     some true e = tt
     some false e = let n = eqb-false (sis sd) 0 e in omega (arith, n)
 

@@ -10,7 +10,7 @@ use lib.ListN.{length, get_or, length-set, get_or-map}
 use lib.Seq.{get_or-set_same, get_or-set_other, set_out}
 use Rattle.lists.specs.Lists.{pick}
 use Rattle.frames_rules.specs.declared.answers.Interrogator.{Interrogator}
-use Rattle.frames_rules.specs.declared.answers.Interrogator.TheVariants.{II, Si, Nobody}
+use Rattle.frames_rules.specs.declared.answers.Interrogator.TheVariants.{II, SI, Nobody}
 use Rattle.model_rules.specs.declared.state.Lock.TheVariants.{Never, Since}
 use Rattle.model_rules.specs.declared.state.Timers.{Timers}
 use Rattle.model_rules.specs.declared.state.Transponder.{Transponder}
@@ -82,14 +82,14 @@ pub other_timer : (code other : Interrogator) (time : ℕ) (t : Timers) → (pla
 unfolding started
 other_timer code other time t n = get_or-set_other t.list (place_of code) (place_of other) (record { lock = Since time }) idle n
 
--- "an Si lockout that also locks the II of equal number": an Si and an II never share a timer, and two of a kind only if they are one
-pub si_not_ii : (n m : ℕ) → 1 ≤ n → m ≤ 15 → place_of (II m) ≡ place_of (Si n) → ⊥
+-- "an SI lockout that also locks the II of equal number": an SI and an II never share a timer, and two of a kind only if they are one
+pub si_not_ii : (n m : ℕ) → 1 ≤ n → m ≤ 15 → place_of (II m) ≡ place_of (SI n) → ⊥
 si_not_ii n m h k e = omega arith
 
 pub ii_one : (n m : ℕ) → place_of (II m) ≡ place_of (II n) → m ≡ n
 ii_one n m e = e
 
-pub si_one : (n m : ℕ) → place_of (Si m) ≡ place_of (Si n) → m ≡ n
+pub si_one : (n m : ℕ) → place_of (SI m) ≡ place_of (SI n) → m ≡ n
 si_one n m e = omega arith
 
 -- ---- which command starts which timer
@@ -138,10 +138,10 @@ module _ (pc di sd : ℕ) (t : Transponder) (h : length t.timers.list ≡ 79) wh
       by (inl q) = rw (q, e)
       by (inr q) = rw (q, e)
 
-  -- "DI 3 with LSS (bit 23) starts the Si in 17-22; Si 0 starts none"
-  pub lss_locks : di ≡ 3 → lss sd ≡ 1 → (sis sd ≡ 0 → ⊥) → locked_to (Si (sis sd)) (lockout pc di sd t).timers ≡ true
+  -- "DI 3 with LSS (bit 23) starts the SI in 17-22; SI 0 starts none"
+  pub lss_locks : di ≡ 3 → lss sd ≡ 1 → (sis sd ≡ 0 → ⊥) → locked_to (SI (sis sd)) (lockout pc di sd t).timers ≡ true
   unfolding command_of_sd started_by_lss
-  lss_locks d e n = sd_locks (Si (sis sd)) (rw (d, e, ne_eqb (sis sd) 0 n)) (omega arith)
+  lss_locks d e n = sd_locks (SI (sis sd)) (rw (d, e, ne_eqb (sis sd) 0 n)) (omega arith)
 
 -- no other command starts one: LOS is read for DI 1 and 7 alone, LSS for DI 3 alone
 pub no_command : (di sd : ℕ) → (di ≡ 1 → ⊥) → (di ≡ 3 → ⊥) → (di ≡ 7 → ⊥) → command_of_sd di sd ≡ Nobody

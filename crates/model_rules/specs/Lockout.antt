@@ -3,7 +3,7 @@ use Rattle.std.specs.Prelude.{ℕ, Bool, true, false, ◌||◌, eqb, get_or}
 use Rattle.lists.specs.Lists.{pick}
 use Rattle.frames_rules.specs.Fields.{bits_to, value_at}
 use Rattle.frames_rules.specs.declared.answers.Interrogator.{Interrogator}
-use Rattle.frames_rules.specs.declared.answers.Interrogator.TheVariants.{II, Si, Nobody}
+use Rattle.frames_rules.specs.declared.answers.Interrogator.TheVariants.{II, SI, Nobody}
 use Rattle.model_rules.specs.declared.state.Lock.{Lock}
 use Rattle.model_rules.specs.declared.state.Lock.TheVariants.{Never, Since}
 use Rattle.model_rules.specs.declared.state.Timers.{Timers}
@@ -19,7 +19,7 @@ iis sd = value_at (bits_to 17 20) sd
 abbrev pub los : ℕ → ℕ
 los sd = value_at (bits_to 26 26) sd
 
--- "the Si in 17-22"
+-- "the SI in 17-22"
 abbrev pub sis : ℕ → ℕ
 sis sd = value_at (bits_to 17 22) sd
 
@@ -36,9 +36,9 @@ command_of_pc pc = pick (eqb pc 1) (II 0) Nobody
 unfoldable pub started_by_los : ℕ → Interrogator
 started_by_los sd = pick (eqb (los sd) 1) (II (iis sd)) Nobody
 
--- "with LSS .. starts the Si in 17-22; Si 0 starts none"
+-- "with LSS .. starts the SI in 17-22; SI 0 starts none"
 unfoldable pub started_by_lss : ℕ → Interrogator
-started_by_lss sd = pick (eqb (lss sd) 1) (pick (eqb (sis sd) 0) Nobody (Si (sis sd))) Nobody
+started_by_lss sd = pick (eqb (lss sd) 1) (pick (eqb (sis sd) 0) Nobody (SI (sis sd))) Nobody
 
 -- "DI 1 or 7 with LOS", "DI 3 with LSS"
 unfoldable pub command_of_sd : ℕ → ℕ → Interrogator

@@ -8,7 +8,7 @@ use Rattle.frames_rules.specs.declared.answers.Up.{Up}
 use Rattle.frames_rules.specs.declared.answers.Up.TheVariants as up
 use Rattle.frames_rules.specs.Shared.{code_for, short_reply}
 use Rattle.frames_rules.specs.declared.answers.Interrogator.{Interrogator}
-use Rattle.frames_rules.specs.declared.answers.Interrogator.TheVariants.{II, Si, Nobody}
+use Rattle.frames_rules.specs.declared.answers.Interrogator.TheVariants.{II, SI, Nobody}
 use Rattle.model_rules.specs.declared.state.Sent.{Sent}
 use Rattle.model_rules.specs.Replies.{silence, sent_bytes, draws_below}
 use Rattle.model_rules.specs.Calls.{laid_over}
@@ -35,11 +35,11 @@ reply_on a s uf rr di sd =
 abbrev pub answers_at : Aircraft → List Call → ℕ → ℕ → ℕ → Interrogator → Bool
 answers_at a cs time draw pr c = (leb 8 pr || not (locked_since time (last_command a c cs))) && ltb draw (draws_below pr)
 
--- "Si 0 and CL 5 to 7 get no reply"
+-- "SI 0 and CL 5 to 7 get no reply"
 abbrev pub answers_to : Aircraft → List Call → ℕ → ℕ → ℕ → Interrogator → Bool
 answers_to a cs time draw pr Nobody = false
 answers_to a cs time draw pr (II n) = answers_at a cs time draw pr (II n)
-answers_to a cs time draw pr (Si n) = answers_at a cs time draw pr (Si n)
+answers_to a cs time draw pr (SI n) = answers_at a cs time draw pr (SI n)
 
 -- the answer to PR, IC and CL
 abbrev pub call_on : Aircraft → List Call → ℕ → ℕ → ℕ → ℕ → ℕ → Sent

@@ -84,11 +84,11 @@ free pr c t = leb 8 pr || not (locked_to c t.timers)
 abbrev pub answers_free : ℕ → ℕ → Interrogator → Transponder → Bool
 answers_free pr draw c t = free pr c t && ltb draw (draws_below pr)
 
--- "Si 0 and CL 5 to 7 get no reply"
+-- "SI 0 and CL 5 to 7 get no reply"
 abbrev pub answers_code : ℕ → ℕ → Transponder → Interrogator → Bool
 answers_code pr draw t code.Nobody = false
 answers_code pr draw t (code.II n) = answers_free pr draw (code.II n) t
-answers_code pr draw t (code.Si n) = answers_free pr draw (code.Si n) t
+answers_code pr draw t (code.SI n) = answers_free pr draw (code.SI n) t
 
 unfoldable pub answers : ℕ → ℕ → ℕ → ℕ → Transponder → Bool
 answers pr ic cl draw t = answers_code pr draw t (code_for cl ic)

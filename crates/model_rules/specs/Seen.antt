@@ -8,7 +8,7 @@ use Rattle.frames_rules.specs.Interrogations.{up_of}
 use Rattle.frames_rules.specs.declared.answers.Up.{Up}
 use Rattle.frames_rules.specs.declared.answers.Up.TheVariants as up
 use Rattle.frames_rules.specs.declared.answers.Interrogator.{Interrogator}
-use Rattle.frames_rules.specs.declared.answers.Interrogator.TheVariants.{II, Si, Nobody}
+use Rattle.frames_rules.specs.declared.answers.Interrogator.TheVariants.{II, SI, Nobody}
 use Rattle.model_rules.specs.declared.state.Lock.{Lock}
 use Rattle.model_rules.specs.declared.state.Lock.TheVariants.{Never, Since}
 use Rattle.model_rules.specs.Lockout.{command_of_pc, command_of_sd}
@@ -46,22 +46,22 @@ told a (c ∷ cs) =
     told_after a c (number_on s c) s
 
 -- ---- lockout
--- "II 0-15, Si 1-63"
+-- "II 0-15, SI 1-63"
 abbrev pub ACode : Interrogator → Type 0
 ACode (II n) = n ≤ 15
-ACode (Si n) = (1 ≤ n) × (n ≤ 63)
+ACode (SI n) = (1 ≤ n) × (n ≤ 63)
 ACode Nobody = ⊥
 
 -- whether two codes are the same
 abbrev pub is_code : Interrogator → Interrogator → Bool
 is_code (II n) (II m) = eqb n m
-is_code (II n) (Si m) = false
+is_code (II n) (SI m) = false
 is_code (II n) Nobody = false
-is_code (Si n) (II m) = false
-is_code (Si n) (Si m) = eqb n m
-is_code (Si n) Nobody = false
+is_code (SI n) (II m) = false
+is_code (SI n) (SI m) = eqb n m
+is_code (SI n) Nobody = false
 is_code Nobody (II m) = false
-is_code Nobody (Si m) = false
+is_code Nobody (SI m) = false
 is_code Nobody Nobody = false
 
 -- whether PC, or DI and SD, command a code

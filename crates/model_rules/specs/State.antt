@@ -2,7 +2,7 @@
 use Rattle.std.specs.Prelude.{ℕ, ◌+◌, ◌-◌, Bool, not, List, [], ◌∷◌, ◌++◌, eqb, length, take, drop, set, get_or}
 use Rattle.lists.specs.Lists.{pick, over}
 use Rattle.frames_rules.specs.declared.answers.Interrogator.{Interrogator}
-use Rattle.frames_rules.specs.declared.answers.Interrogator.TheVariants.{II, Si, Nobody}
+use Rattle.frames_rules.specs.declared.answers.Interrogator.TheVariants.{II, SI, Nobody}
 use Rattle.model_rules.specs.declared.state.Lock.TheVariants.{Never, Since}
 use Rattle.model_rules.specs.declared.state.Timer.{Timer}
 use Rattle.model_rules.specs.declared.state.Timers.{Timers}
@@ -10,11 +10,11 @@ use Rattle.model_rules.specs.declared.state.Holder.{Holder}
 use Rattle.model_rules.specs.declared.state.Messages.{Messages}
 use Rattle.model_rules.specs.declared.state.Transponder.{Transponder}
 
--- ---- "each of 79 timers (II 0-15, Si 1-63)"
+-- ---- "each of 79 timers (II 0-15, SI 1-63)"
 -- the place of a code's timer; nobody's code has none, and 79 is beyond the last
 abbrev pub place_of : Interrogator → ℕ
 place_of (II n) = n
-place_of (Si n) = 15 + n
+place_of (SI n) = 15 + n
 place_of Nobody = 79
 
 -- a timer that was never commanded

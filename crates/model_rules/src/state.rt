@@ -1,40 +1,40 @@
 // A transponder, by value, and what its calls answer.
 
 // A timer's last command: never, or at a time.
-#[derive(Drop)]
+#[derive(Clone, Copy)]
 pub enum Lock {
     Never,
     Since(u32),
 }
 
 // One of the 79 timers.
-#[derive(Drop)]
+#[derive(Clone, Copy)]
 pub struct Timer {
     pub lock: Lock,
 }
 
 // The timers: II 0 to 15 at places 0 to 15, SI 1 to 63 at places 16 to 78.
-#[derive(Drop)]
+#[derive(Clone, Copy)]
 pub struct Timers {
     pub list: [Timer; 79],
 }
 
 // Who has reserved the first message, and since when.
-#[derive(Drop)]
+#[derive(Clone, Copy)]
 pub enum Holder {
     Nobody,
     Held { ii: u8, since: u32 },
 }
 
 // The messages of 56 bits that wait, the oldest first.
-#[derive(Drop)]
+#[derive(Clone, Copy)]
 pub struct Messages {
     pub list: [u64; 8],
     pub n: usize,
 }
 
 // A transponder: what it was made with, its last time, and what it keeps.
-#[derive(Drop)]
+#[derive(Clone, Copy)]
 pub struct Transponder {
     pub address: u32,
     pub ac: u16,
@@ -48,21 +48,21 @@ pub struct Transponder {
 }
 
 // What a making answers.
-#[derive(Drop)]
+#[derive(Clone, Copy)]
 pub struct Made {
     pub number: u8,
     pub transponder: Transponder,
 }
 
 // What a queuing answers.
-#[derive(Drop)]
+#[derive(Clone, Copy)]
 pub struct Queued {
     pub number: u8,
     pub transponder: Transponder,
 }
 
 // What a frame is answered: the reply's bytes stand at the front, zeros behind; length 0 is no reply.
-#[derive(Drop)]
+#[derive(Clone, Copy)]
 pub struct Took {
     pub number: u8,
     pub transponder: Transponder,
@@ -71,14 +71,14 @@ pub struct Took {
 }
 
 // A reply to be sent, or none with length 0.
-#[derive(Drop)]
+#[derive(Clone, Copy)]
 pub struct Sent {
     pub length: usize,
     pub bytes: [u8; 14],
 }
 
 // A transponder after a frame, and what it sends.
-#[derive(Drop)]
+#[derive(Clone, Copy)]
 pub struct Went {
     pub transponder: Transponder,
     pub sent: Sent,

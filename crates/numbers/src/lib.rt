@@ -1,4 +1,6 @@
 // What several crates ask of numbers: how many slots count, and a number of 16 bits among those of 32.
+#![tactic(auto)]
+
 ghost use Rattle.std.specs.Prelude.{◌≡◌, ◌≤◌, min};
 
 // How many slots count: the count, or all of them where the count is too large.

@@ -1,4 +1,6 @@
 // Parity and correction of document 01: remainders, overlays, and correction by marked bits.
+#![tactic(auto)]
+
 mod correction;
 mod division;
 mod lengths;

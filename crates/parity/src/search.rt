@@ -30,7 +30,7 @@ pub(crate) fn count(syns: &[u32; 12], k: usize, want: u32) -> u32
 }
 
 // Whether a bit is taken, and what is left: how many marked bits, and what is to match.
-#[derive(Drop)]
+#[derive(Clone, Copy)]
 struct Choice {
     taken: u32,
     k: usize,
@@ -63,7 +63,7 @@ fn choose(marks: &[u8], i: usize, syns: &[u32; 12], k: usize, want: u32) -> Choi
 }
 
 // The places taken among eight, as a mask and a number, and what is left.
-#[derive(Drop)]
+#[derive(Clone, Copy)]
 pub(crate) struct Part {
     pub(crate) mask: u32,
     pub(crate) taken: u32,

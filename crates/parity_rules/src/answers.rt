@@ -1,7 +1,7 @@
 // What the public calls answer; specs/Answers.antt has document 01's number for each case.
 
 // A reckoned number, or why there is none.
-#[derive(Drop)]
+#[derive(Clone, Copy)]
 pub enum Reckoned {
     // The number asked for.
     Is(u32),
@@ -12,7 +12,7 @@ pub enum Reckoned {
 }
 
 // What became of a correction.
-#[derive(Drop)]
+#[derive(Clone, Copy)]
 pub enum Fix {
     // Exactly one subset matches: the output is the message with its bits flipped, this many, and the places are marked.
     Flips(u32),

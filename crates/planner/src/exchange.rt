@@ -7,7 +7,7 @@ use numbers::wide;
 use planner_rules::Ask;
 
 // In ticks from its start: it transmits in [0, sent), listens in [from, to), and ends with its window.
-#[derive(Drop)]
+#[derive(Clone, Copy)]
 pub struct Exchange {
     pub sent: u32,
     pub from: u32,

@@ -1,5 +1,7 @@
 // The calls of the roll-call planner: exchanges, shares and plans. Their definitions, those of document 01's "Ticks, windows,
 // shares", stand in crate planner_rules.
+#![tactic(auto)]
+
 mod entry;
 mod exchange;
 mod plan;

@@ -107,11 +107,11 @@ shown_append : (es new : List Entry) → map entry_shown (es ++ new) ≡ map ent
 shown_append [] new = refl
 shown_append (e ∷ es) new = ap (λ (l : List EntryShown). entry_shown e ∷ l) (shown_append es new)
 
-told_then : (L : ℕ) (es : List Entry) (xs ys : List EntryShown) (w : List Ask)
+told_then : (L : ℕ) (xs ys : List EntryShown) (es : List Entry) (w : List Ask)
     → told_by L es (xs ++ ys) w ≡ told_by L (told_by L es xs w).placed ys (told_by L es xs w).waiting
 unfolding told_by
-told_then L es [] ys w = refl
-told_then L es (x ∷ xs) ys w = told_then L _ xs ys _
+told_then L [] ys es w = refl
+told_then L (x ∷ xs) ys es w = told_then L xs ys _ _
 
 abbrev Told : ℕ → List Ask → List Entry → List Ask → Type 0
 Told L w es v = told_by L [] (map entry_shown es) w ≡ record { placed = es; waiting = v }
@@ -121,7 +121,7 @@ pass_told L limits w es es' v v' r h =
     let n = read L limits [] (all_nil (Left L limits es)) r in
     ap (λ (l : List Entry). told_by L [] (map entry_shown l) w) n.behind
     ∙ ap (λ (l : List EntryShown). told_by L [] l w) (shown_append es n.new)
-    ∙ told_then L [] (map entry_shown es) (map entry_shown n.new) w
+    ∙ told_then L (map entry_shown es) (map entry_shown n.new) [] w
     ∙ ap (λ (b : Board). told_by L b.placed (map entry_shown n.new) b.waiting) h
     ∙ n.told
 

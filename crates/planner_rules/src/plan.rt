@@ -3,14 +3,14 @@ use crate::entry::Entry;
 use crate::request::Ask;
 
 // Where a request goes.
-#[derive(Drop)]
+#[derive(Clone, Copy)]
 pub enum Place {
     At(u16),
     Nowhere,
 }
 
 // What is placed, in the order placed, and what still waits, the oldest first.
-#[derive(Drop)]
+#[derive(Clone, Copy)]
 pub struct Planned {
     pub placed: usize,
     pub entries: [Entry; 128],

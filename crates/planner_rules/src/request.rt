@@ -2,7 +2,7 @@
 
 // What a unit asks of one aircraft.
 #[repr(C)]
-#[derive(Drop)]
+#[derive(Clone, Copy)]
 pub struct Request {
     pub unit: u8,
     pub address: u32,
@@ -16,7 +16,7 @@ pub struct Request {
 
 // A request with near and far of its target, as they are when the plan is made.
 #[repr(C)]
-#[derive(Drop)]
+#[derive(Clone, Copy)]
 pub struct Ask {
     pub request: Request,
     pub near: u16,
@@ -25,7 +25,7 @@ pub struct Ask {
 
 // The waiting list, the oldest first: the first n of the slots.
 #[repr(C)]
-#[derive(Drop)]
+#[derive(Clone, Copy)]
 pub struct Asks {
     pub list: [Ask; 128],
     pub n: usize,

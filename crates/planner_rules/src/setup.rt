@@ -2,7 +2,7 @@
 
 // Period L, reach R, correction limit, and each unit's guarantee and ceiling.
 #[repr(C)]
-#[derive(Drop)]
+#[derive(Clone, Copy)]
 pub struct Setup {
     pub period: u16,
     pub reach: u16,

@@ -1,5 +1,7 @@
 // The calls that read records: their kinds and lengths, what stands in their bodies, and the reader that carries the stream and
 // its place. Their definitions stand in crate reader_rules.
+#![tactic(auto)]
+
 mod fields;
 mod kinds;
 mod reader;

@@ -1,7 +1,7 @@
 // What stands in bodies, where it is no number and no type of a plan.
 
 // The address of a target with near and far.
-#[derive(Drop)]
+#[derive(Clone, Copy)]
 pub struct Edges {
     pub address: u32,
     pub near: u16,
@@ -9,7 +9,7 @@ pub struct Edges {
 }
 
 // A reply: its entry and tag, and the parts of the stream [message, marks) and [marks, end) that hold message and marks.
-#[derive(Drop)]
+#[derive(Clone, Copy)]
 pub struct Reply {
     pub entry: u8,
     pub tag: u32,

@@ -1,5 +1,5 @@
 // The reader: the stream and its place together.
-#[derive(Drop)]
+#[derive(Clone, Copy)]
 pub struct Reader<'a> {
     pub stream: &'a [u8],
     pub place: usize,

@@ -1,7 +1,7 @@
 // What stands at a place of the stream.
 
 // Nothing; an unknown kind; a kind whose body is cut; a record with its body's place and the place after it.
-#[derive(Drop)]
+#[derive(Clone, Copy)]
 pub enum Found {
     End,
     Unknown(u8),

@@ -9,7 +9,7 @@ ghost use Rattle.station.specs.Trials.{as_correction};
 use parity::Fix;
 
 // The number that a correction is answered, and its flips.
-#[derive(Drop)]
+#[derive(Clone, Copy)]
 pub struct Corrected {
     pub number: u8,
     pub flips: u32,

@@ -1,4 +1,6 @@
 // The calls of the station of document 01: targets, requests, plans in force, replies and ages. Their definitions stand in crate station_rules.
+#![tactic(auto)]
+
 mod ages;
 mod calls;
 mod correcting;

@@ -2,14 +2,14 @@
 use planner_rules::{Entry, Request, Setup};
 
 // What an aircraft said: AC or ID, with its age in plans.
-#[derive(Drop)]
+#[derive(Clone, Copy)]
 pub enum Value {
     Never,
     Heard { value: u16, age: u16 },
 }
 
 // A target: what it said, and its near and far edges in round-trip ticks.
-#[derive(Drop)]
+#[derive(Clone, Copy)]
 pub struct Target {
     pub ac: Value,
     pub id: Value,
@@ -19,28 +19,28 @@ pub struct Target {
 }
 
 // The target list: the first n of the slots.
-#[derive(Drop)]
+#[derive(Clone, Copy)]
 pub struct Targets {
     pub list: [Target; 64],
     pub n: usize,
 }
 
 // The waiting list, the oldest request first: the first n of the slots.
-#[derive(Drop)]
+#[derive(Clone, Copy)]
 pub struct Waiting {
     pub list: [Request; 128],
     pub n: usize,
 }
 
 // The plan in force: its entries by their numbers, and its tag.
-#[derive(Drop)]
+#[derive(Clone, Copy)]
 pub struct Plan {
     pub list: [Entry; 128],
     pub n: usize,
     pub tag: u32,
 }
 
-#[derive(Drop)]
+#[derive(Clone, Copy)]
 pub struct Station {
     pub targets: Targets,
     pub waiting: Waiting,
@@ -49,14 +49,14 @@ pub struct Station {
 }
 
 // The number that a call is given, and the station afterwards.
-#[derive(Drop)]
+#[derive(Clone, Copy)]
 pub struct Outcome {
     pub number: u8,
     pub station: Station,
 }
 
 // What a report is answered.
-#[derive(Drop)]
+#[derive(Clone, Copy)]
 pub struct Report {
     pub number: u8,
     pub ac: Value,
@@ -64,7 +64,7 @@ pub struct Report {
 }
 
 // What a reply is answered: its number, the flips, the measured delay, and the station afterwards.
-#[derive(Drop)]
+#[derive(Clone, Copy)]
 pub struct Reply {
     pub number: u8,
     pub flips: u32,

@@ -1,4 +1,6 @@
 // The record stream: what each record does, and the lines that it prints, as their very bytes.
+#![tactic(auto)]
+
 mod answers;
 mod entries;
 mod obey;

@@ -12,7 +12,7 @@ use crate::report::put_report;
 use station_rules::{Outcome, Station};
 
 // The station afterwards, and the place behind the lines.
-#[derive(Drop)]
+#[derive(Clone, Copy)]
 pub(crate) struct Done {
     pub station: Station,
     pub end: usize,

@@ -8,7 +8,7 @@ use reader_rules::Found;
 use station_rules::Station;
 
 // The station afterwards, whether the run goes on and where, and the place behind the lines.
-#[derive(Drop)]
+#[derive(Clone, Copy)]
 pub(crate) struct Step {
     pub station: Station,
     pub more: bool,

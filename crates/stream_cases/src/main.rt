@@ -1,4 +1,6 @@
 // The program stream_cases: every file that its arguments name is a stream of its own; it prints each name and then the transcript.
+#![tactic(auto)]
+
 use libc::STDOUT_FILENO;
 
 // A file by its name: "== NAME" and its lines, or "NAME ?" where it cannot be opened.

@@ -1,4 +1,6 @@
 // The lines of a stream that is read from a file: the one loop of every program that prints a transcript.
+#![tactic(auto)]
+
 use libc::STDERR_FILENO;
 use stream::ROOM;
 

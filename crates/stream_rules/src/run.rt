@@ -2,7 +2,7 @@
 use station_rules::Station;
 
 // The station, the place and the number of the next record, and whether the run goes on.
-#[derive(Drop)]
+#[derive(Clone, Copy)]
 pub struct Run {
     pub station: Station,
     pub at: usize,
@@ -11,7 +11,7 @@ pub struct Run {
 }
 
 // What a step answers: the run after it, and the place in the buffer behind its lines.
-#[derive(Drop)]
+#[derive(Clone, Copy)]
 pub struct Progress {
     pub run: Run,
     pub end: usize,

@@ -1,4 +1,6 @@
 // Lines of text: words, numbers and bytes read from a line, and decimal and hex laid into a lent buffer. The definitions stand in crate text_rules.
+#![tactic(auto)]
+
 mod bases;
 mod count;
 mod hex;

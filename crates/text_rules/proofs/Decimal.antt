@@ -27,6 +27,7 @@ decimal_small (suc n) h = rw (lt-ltb (suc n) 10 h)
 
 pub decimal_more : (n : ℕ) → 10 ≤ n → decimal n ≡ decimal (n / 10) ++ ((48 + n % 10) ∷ [])
 unfolding decimal decimal_in
+decimal_more zero h = elim h [ ]
 decimal_more (suc n) h = rw (le-ltb (suc n) 10 h, enough n (suc n / 10) (suc n / 10) (omega arith) (omega arith))
 
 -- ---- how many digits

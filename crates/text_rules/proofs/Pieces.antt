@@ -119,7 +119,7 @@ module _ {A : Type 0} (text : A → List ℕ → List ℕ) (leaves : A → List 
 
   pub data InPieces : A → List ℕ → List (List ℕ) → List ℕ → Type 0 where
     over : {a : A} → InPieces a [] [] []
-    last_line : {a : A} {b : ℕ} {l : List ℕ} → InPieces a (b ∷ l) [] (text a (b ∷ l))
+    last_piece : {a : A} {b : ℕ} {l : List ℕ} → InPieces a (b ∷ l) [] (text a (b ∷ l))
     a_line : {a : A} {l : List ℕ} (p : List ℕ) (at : ℕ) {ps : List (List ℕ)} {t : List ℕ} → at ≤ length p → line_end p at < length p
         → InPieces (leaves a (l ++ line_at p at)) [] (drop (line_end p at + 1) p ∷ ps) t → InPieces a l (drop at p ∷ ps) (text a (l ++ line_at p at) ++ t)
     a_piece : {a : A} {l : List ℕ} (p : List ℕ) (at : ℕ) {ps : List (List ℕ)} {t : List ℕ} → at ≤ length p → length p ≤ line_end p at
@@ -129,7 +129,7 @@ module _ {A : Type 0} (text : A → List ℕ → List ℕ) (leaves : A → List 
   pub pieces_print : {a : A} {l : List ℕ} {ps : List (List ℕ)} {t : List ℕ} → InPieces a l ps t → All Inside l → t ≡ said_of a (lines_of (l ++ together ps))
   unfolding said_of
   pieces_print (over {a}) h = ap (said_of a) (sym (last [] h))
-  pieces_print (last_line {a} {b} {l}) h =
+  pieces_print (last_piece {a} {b} {l}) h =
       sym (append-nil (text a (b ∷ l))) ∙ ap (said_of a) (sym (ap lines_of (append-nil (b ∷ l)) ∙ last (b ∷ l) h))
   pieces_print (a_line {a} {l} p at {ps} {t} k e more) h =
       let x = line_at p at in
@@ -228,7 +228,7 @@ module _ {A : Type 0} (most : ℕ) (text : A → List ℕ → List ℕ) (leaves 
   whole_lines ran_out (c ∷ l) e = absurd (omega (arith, ap length e))
   whole_lines (ran_last {a} {b} {h}) [] e = absurd (omega (arith, ap length e))
   whole_lines (ran_last {a} {b} {h}) (c ∷ l) e =
-      subst (InPieces text leaves a (c ∷ l) []) (sym (ap (text a) e ∙ same_text a (c ∷ l))) last_line
+      subst (InPieces text leaves a (c ∷ l) []) (sym (ap (text a) e ∙ same_text a (c ∷ l))) last_piece
   whole_lines (ran_line {a} {h} p at g line {ps} {t} k x f more) l e =
       let q = held_line l x e in
       let said = ap (text a) q ∙ same_text a (l ++ line_at p at) in

@@ -1,28 +1,28 @@
 // What the calls that read a line answer.
 
 // A part of a line: from the place `from` up to, not including, `to`.
-#[derive(Drop)]
+#[derive(Clone, Copy)]
 pub struct Span {
     pub from: usize,
     pub to: usize,
 }
 
 // What a word says as a decimal number.
-#[derive(Drop)]
+#[derive(Clone, Copy)]
 pub enum Number {
     Is(u32),
     Not,
 }
 
 // What a word says as a number with its sign.
-#[derive(Drop)]
+#[derive(Clone, Copy)]
 pub enum Integer {
     Is(i32),
     Not,
 }
 
 // What a word says as bytes in hex: how many they are.
-#[derive(Drop)]
+#[derive(Clone, Copy)]
 pub enum Hex {
     Bytes(usize),
     Not,
@@ -30,7 +30,7 @@ pub enum Hex {
 
 // A piece of the input was taken up to the end of a line or of the piece: how many bytes of the line are held, the next place in the piece, and
 // whether the line ended.
-#[derive(Drop)]
+#[derive(Clone, Copy)]
 pub struct Gathered {
     pub size: usize,
     pub next: usize,
