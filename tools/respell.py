@@ -24,7 +24,7 @@ def own(text):
     return {w for m in IMPORT.finditer(text) for w in WORD.findall(m.group(1))}
 
 
-def respelled(text, fields, skip, camel_only):
+def respelled(text, fields, skip, camel_only, aliases=()):
     def turn(m):
         w = m.group(0)
         if w not in NEW or w in skip or (camel_only and "-" in w):
@@ -32,6 +32,8 @@ def respelled(text, fields, skip, camel_only):
         before = text[max(0, m.start() - 5):m.start()]
         if before.endswith("tie.") or before.endswith("goal."):
             return w
+        if any(text.endswith(a + ".", 0, m.start()) for a in aliases):
+            return NEW[w]
         if before.endswith(".") and w not in fields and not re.search(r"(?:specs|proofs)(?:\.\w+)*\.$", text[max(0, m.start() - 120):m.start()]):
             return w
         return NEW[w]
@@ -40,6 +42,8 @@ def respelled(text, fields, skip, camel_only):
 
 def lines_of(path, text, fields, skip):
     out = []
+    aliases = re.findall(r"^use Rattle[.·](?!std\b)[\w.·+-]+ as (\w+)$", text, re.M)
+    aliases = [a for a in aliases if a not in ("tie", "goal")]
     mark = "--" if path.endswith(".antt") else "//" if path.endswith(".rt") else "#"
     for line in text.split("\n"):
         comment = line.lstrip().startswith(mark)
@@ -48,7 +52,7 @@ def lines_of(path, text, fields, skip):
             ghost = re.search(r"ghost use|requires|ensures|invariant|prove!", line) is not None
             line = "".join(p if i % 2 else respelled(p, fields, skip, comment or not ghost) for i, p in enumerate(parts))
         else:
-            line = respelled(line, fields, skip, comment)
+            line = respelled(line, fields, skip, comment, aliases)
         out.append(line)
     return "\n".join(out)
 

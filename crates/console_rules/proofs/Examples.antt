@@ -121,8 +121,8 @@ feet-lines :
     × Prints "feet 64" "0 metric\n"
     × Prints "feet 1" "18\n"
     × Prints "feet 8192" "2\n"
-unfolding Reading decimal decimal_in signed_decimal eleven feet_by_25 gray_value eight five_hundreds group hundreds feet_by_100 form_of altitude feet.valueText
-    feet.answerText feet_text
+unfolding Reading decimal decimal_in signed_decimal eleven feet_by_25 gray_value eight five_hundreds group hundreds feet_by_100 form_of altitude feet.value_text
+    feet.answer_text feet_text
 feet-lines = (refl, refl, refl, refl, refl, refl, refl)
 
 -- ---- and back: each form at its edges, one foot off, the ends of the numbers that can be said, and what says none

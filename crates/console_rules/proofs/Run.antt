@@ -72,7 +72,7 @@ behind_quit b (l ∷ ls) e =
 
 -- ---- worked: 1000 blanks print nothing, and 1001 are too long; so in feet
 at-the-edge :
-    (line_text begun (replicate 1000 32) ∷ line_text begun (replicate 1001 32) ∷ feet.lineText (replicate 1000 32) ∷ feet.lineText (replicate 1001 32) ∷ [])
-    ≡ [] ∷ too_long ∷ [] ∷ feet.noCode ∷ []
-unfolding line_told words_told words_of parts full grown blank feet.lineText feet.wordsText
+    (line_text begun (replicate 1000 32) ∷ line_text begun (replicate 1001 32) ∷ feet.line_text (replicate 1000 32) ∷ feet.line_text (replicate 1001 32) ∷ [])
+    ≡ [] ∷ too_long ∷ [] ∷ feet.no_code ∷ []
+unfolding line_told words_told words_of parts full grown blank feet.line_text feet.words_text
 at-the-edge = refl

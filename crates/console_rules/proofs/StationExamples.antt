@@ -112,7 +112,7 @@ station_runs_printed : Printed night × Printed later × Printed refusals × Pri
 unfolding Reading checked console_text lines_text lines_of newline answer_text done_text refusal_text decimal decimal_in signed_decimal hex_in hex_of hex_digit
     every count_of index_of filter over total bits xor_bits shift_in divide remainder_of syndrome size_of subsets xor_of matching flipped sent_for reply_for
     apart clear clear_of fits first place shares_fit setup_number plans.tried plans.pass plans.alone plans.turns plans.plan head_of drawn selective_ranged
-    state.beforeSetup state.emptied set_up target_ranged request_ranged unit_full new_target without removed moved requested reported asked board_for next_plan
+    state.before_setup state.emptied set_up target_ranged request_ranged unit_full new_target without removed moved requested reported asked board_for next_plan
     expected value_in start_of in_window targets_heard after_reply settled replied line entry_line entry_lines value_word age_word report_line outcome_spoken
     all_fit where_held numbers_from setup_spoken target_spoken move_spoken remove_spoken request_spoken planned_spoken plan_spoken replied_spoken reply_spoken
     report_text report_spoken newborn make_ranged making made_said model_said holder_text timer_text lock_text locks_text state_text state_said reason_text

@@ -55,7 +55,7 @@ places_told_is s r z =
     let t = taken s r z in
     let p = passed_last (entry_checks s r) (settle_checks s r) t.passed in
     let c = is_correction s r p in
-    let f = subst (λ (o : Correction). o.flips ≡ length (places_told o)) (sym c) (parity.flips-told _ _ _ _ _) in
+    let f = subst (λ (o : Correction). o.flips ≡ length (places_told o)) (sym c) (parity.flips_told _ _ _ _ _) in
     let m = subst (Small r.buffers) (sym c) (outcome_small _ _ _ _ _) in
     rw t.is (record { flips = f; few = omega (arith, f, m.flips); same = m.places })
 

@@ -8,4 +8,4 @@ abbrev pub listing : List Row
 listing = parity.listing ++ plans.listing
 
 pub starred_agree : Agrees listing
-starred_agree = agrees_append parity.listing plans.listing parity.corrections-agree plans.edges-agree
+starred_agree = agrees_append parity.listing plans.listing parity.corrections_agree plans.edges_agree

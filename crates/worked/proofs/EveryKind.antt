@@ -90,7 +90,7 @@ prints =
 runs : transcript every_kind ≡ prints
 unfolding checked every count_of index_of filter over total decimal_in decimal signed_decimal bits xor_bits shift_in divide remainder_of syndrome size_of subsets
     xor_of matching flipped sent_for reply_for apart clear clear_of fits first place shares_fit setup_number plans.tried plans.pass plans.alone plans.turns
-    plans.plan head_of drawn selective_ranged body_length message_length number_at record_at eight_at state.beforeSetup state.emptied set_up target_ranged
+    plans.plan head_of drawn selective_ranged body_length message_length number_at record_at eight_at state.before_setup state.emptied set_up target_ranged
     request_ranged unit_full new_target without removed moved requested reported asked board_for next_plan expected value_in start_of in_window targets_heard
     after_reply settled replied line answer_line reply_line entry_line entry_lines value_word age_word report_line obeyed obeyed_at goes_on next_place text_from
     transcript places_from
@@ -174,7 +174,7 @@ reads :
     ∷ last_said Ac 1 (events_by to_the_end)
     ∷ [])
     ≡ said 1234 0 ∷ never ∷ never ∷ said 4321 1 ∷ never ∷ []
-unfolding bits xor_bits shift_in divide remainder_of syndrome size_of subsets xor_of filter matching flipped head_of drawn expected value_in state.beforeSetup
+unfolding bits xor_bits shift_in divide remainder_of syndrome size_of subsets xor_of filter matching flipped head_of drawn expected value_in state.before_setup
     state.emptied sent_for reply_for apart clear clear_of fits without_it told_by in_force last_said known_by events_by
 reads = refl
 
@@ -190,18 +190,18 @@ reads-waiting :
     ∷ map address_of (known_by to_the_long_reply).waiting
     ∷ [])
     ≡ (1 ∷ 2 ∷ []) ∷ (2 ∷ []) ∷ (1 ∷ 2 ∷ []) ∷ [] ∷ [] ∷ []
-unfolding filter state.beforeSetup state.emptied sent_for reply_for apart clear clear_of fits without_it told_by known_by
+unfolding filter state.before_setup state.emptied sent_for reply_for apart clear clear_of fits without_it told_by known_by
 reads-waiting = refl
 
 -- a plan that shows no line for a request leaves it, with near and far as they were last told
 reads-left :
     asked_known (known_by (done (move 2 4 6) (record { call = plan 0; number = 0; entries = shows 0 1 0 ∷ [] } ∷ before_the_plan)))
     ≡ record { request = asks 0 2 21 16; near = 4; far = 6 } ∷ []
-unfolding filter state.beforeSetup state.emptied sent_for reply_for apart clear clear_of fits without_it told_by known_by
+unfolding filter state.before_setup state.emptied sent_for reply_for apart clear clear_of fits without_it told_by known_by
 reads-left = refl
 
 -- the plan that the replies are held against: its tag, and the starts on its lines
 reads-starts :
     ((known_by to_the_long_reply).tag ∷ (line_of 0 to_the_long_reply).start ∷ (line_of 1 to_the_long_reply).start ∷ []) ≡ 4294967246 ∷ 0 ∷ 79 ∷ []
-unfolding filter state.beforeSetup state.emptied sent_for reply_for apart clear clear_of fits without_it told_by known_by
+unfolding filter state.before_setup state.emptied sent_for reply_for apart clear clear_of fits without_it told_by known_by
 reads-starts = refl

@@ -27,8 +27,8 @@ use Rattle.worked.specs.Transponder.{listing}
 
 -- the one claim
 pub model_agrees : Agrees listing
-unfolding bits shift_in divide remainder_of low_bits times overlay_of over frames.replyRanged frames.allCallReplyRanged frames.selective frames.allCall
-    frames.aReply frames.anAllCallReply frames.replying frames.allCallReplying head_of mid_of selective_head all_call_head reply_head all_call_reply_head front
+unfolding bits shift_in divide remainder_of low_bits times overlay_of over frames.reply_ranged frames.all_call_reply_ranged frames.selective frames.all_call
+    frames.a_reply frames.an_all_call_reply frames.replying frames.all_call_replying head_of mid_of selective_head all_call_head reply_head all_call_reply_head front
     sealed read_as surveillance_read up_of code_for drawn started messages_with messages_after timer_after timers_after lapse started_by_los started_by_lss command_of_sd
     commanded lockout locked_to reserve closeout sending respond draws_below answers answer_all_call newborn make_ranged making queuing steps interrogated
     laid_over selective_comes all_call_comes comes taking after checked checks reserving closing told last_command sent_to

@@ -92,7 +92,7 @@ drawing uf rr paper =
 
 -- an all-call at a time, with PR, IC, CL and its draw
 abbrev called : List Call → ℕ → ℕ → ℕ → ℕ → ℕ → Case
-called cs time pr ic cl draw = record { before = cs; time = time; draw = draw; frame = frames.allCall pr ic cl }
+called cs time pr ic cl draw = record { before = cs; time = time; draw = draw; frame = frames.all_call pr ic cl }
 
 -- the bytes sent, 7 or none
 abbrev sent : List Case → List ℕ → Row
