@@ -42,7 +42,7 @@ def respelled(text, fields, skip, camel_only, aliases=()):
 
 def lines_of(path, text, fields, skip):
     out = []
-    aliases = re.findall(r"^use Rattle[.·](?!std\b)[\w.·+-]+ as (\w+)$", text, re.M)
+    aliases = re.findall(r"^use Rattle[.·](?!std\b)[\w.·+-]+ as ([\w-]+)$", text, re.M)
     aliases = [a for a in aliases if a not in ("tie", "goal")]
     mark = "--" if path.endswith(".antt") else "//" if path.endswith(".rt") else "#"
     for line in text.split("\n"):

@@ -70,7 +70,7 @@ module _ (ws : List (List ℕ)) {l m : List ℕ} {q : ℕ} where
   unfolding code_text
   code_line p e a b c d = rw (e, a, b, c, d) at p
 
-  pub feet_line : {ac : ℕ} → Put (feet-lines.answerText (altitude ac)) 0 l m q → ac ≡ number_at 1 ws → Put (feet_text ws) 0 l m q
+  pub feet_line : {ac : ℕ} → Put (feet-lines.answer_text (altitude ac)) 0 l m q → ac ≡ number_at 1 ws → Put (feet_text ws) 0 l m q
   unfolding feet_text
   feet_line p a = rw a at p
 

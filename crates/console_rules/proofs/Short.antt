@@ -239,7 +239,7 @@ all_call_fits pr ic cl =
 
 -- ---- an altitude
 
-altitude_fits : (ac : ℕ) → length (feet-lines.answerText (altitude ac)) ≤ brief
+altitude_fits : (ac : ℕ) → length (feet-lines.answer_text (altitude ac)) ≤ brief
 altitude_fits ac = omega (arith, answer_short ac)
 
 -- the way back answers a code of 13 bits, or 19

@@ -9,7 +9,7 @@ use Rattle.console_rules.specs.Texts.{number_at, integer_at, answer_text}
 
 -- the altitude's own answer: feet, none, metric, or the refusal's number alone
 unfoldable pub feet_text : List (List ℕ) → List ℕ
-feet_text ws = feet-lines.answerText (altitude (number_at 1 ws))
+feet_text ws = feet-lines.answer_text (altitude (number_at 1 ws))
 
 -- the way back's own answer: the code, or the refusal's number alone
 unfoldable pub written_text : Answer → List ℕ

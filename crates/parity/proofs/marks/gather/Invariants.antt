@@ -1,0 +1,17 @@
+-- `parity::marks::gather` meets its contract. The invariant: the places from n - k on are gathered.
+use mathlib.Core.Path.{◌≡◌, refl, sym, subst}
+use Prim.Native.Nat.{ℕ, ◌-◌, ◌*◌, ◌<◌, ◌≤◌}
+use native.Mathlib.Omega.{arith}
+use lib.ListN.{length, drop}
+use Rattle.parity_rules.specs.Messages.{bits}
+use Rattle.parity_rules.specs.Steps.{Gathered}
+use Rattle.parity_rules.proofs.Bits.{bits_length, bits_are, are_at}
+use Rattle.parity_rules.proofs.Kept.{gathered_none, gathered_next, gathered_all}
+use Rattle.parity.proofs.marks.gather.Given as goal
+
+abbrev pub invariant-loop-k : goal.invariant-loop-k
+invariant-loop-k l =
+    (l.n ≡ length l.marks * 8) × (l.k ≤ l.n) × (l.many ≤ l.k) × (length l.syns ≡ 12) × Gathered (drop (l.n - l.k) (bits l.marks)) l.many l.syns
+
+abbrev pub decreases-loop-k : goal.decreases-loop-k
+decreases-loop-k l = l.n - l.k

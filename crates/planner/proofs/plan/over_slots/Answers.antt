@@ -1,0 +1,33 @@
+-- `over_slots` writes one ask after the other.
+use Prim.Native.Nat.{◌-◌, ◌≤◌}
+use native.Mathlib.Omega.{arith}
+use mathlib.Core.Path.{◌≡◌, ◌∙◌}
+use mathlib.Core.List.{map-id}
+use lib.ListN.{length, take}
+use Rattle.lists.proofs.Front.{length_mapped}
+use Rattle.lists.proofs.Copied.{Copied, copied_none, copied_more, copied_front}
+use Rattle.planner_rules.specs.declared.request.Ask.{Ask}
+use borrow.Author.Rules.{rules}
+use Rattle.planner.proofs.plan.over_slots.Invariants.{itself}
+use Rattle.planner.proofs.plan.over_slots.Goals as goal
+
+pub loop-i-init : goal.loop-i-init
+loop-i-init c = (search rules, copied_none itself c.args.t3 c.args.base)
+
+pub loop-i-preserved : goal.loop-i-preserved
+loop-i-preserved c =
+    let l = c in
+    let s = l in
+    let e : length s.args.t3 ≡ 128 = search (rules, length_mapped) in
+    let f : length s.args.base ≡ 128 = search (rules, length_mapped) in (
+      search rules,
+      copied_more itself s.args.t3 s.args.base l.loop-i.i l.loop-i.out _ (omega (arith, s.requires)) (omega (arith, s.requires)) l.loop-i.invariant.1,
+    )
+
+pub returns : goal.returns
+returns c =
+    let l = c in
+    let s = l in
+    let e : length s.args.t3 ≡ 128 = search (rules, length_mapped) in
+    copied_front itself s.args.n s.args.t3 s.args.base l.loop-i.i l.loop-i.out (omega (arith, s.requires)) l.loop-i.invariant.1
+    ∙ rw (map-id (take s.args.n s.args.t3))

@@ -1,0 +1,18 @@
+-- `in_range` looks at the eight shares.
+use Rattle.planner_rules.specs.Shares.{share, in_range}
+use Prim.Native.Nat.{◌≤◌, ◌-◌}
+use native.Mathlib.Omega.{arith}
+use mathlib.Core.Path.{◌≡◌, sym, ap, ◌∙◌}
+use mathlib.Core.Bool.{true}
+use borrow.Author.Tests.{le-leb, lt-leb}
+use Rattle.lists.specs.Lists.{every}
+use Rattle.lists.proofs.Every.{every_none, every_more, every_fails}
+use Rattle.planner_rules.specs.Shares.{in_range}
+use borrow.Author.Rules.{rules}
+use Rattle.planner.proofs.shares.in_range.Given as goal
+
+abbrev pub invariant-loop-u : goal.invariant-loop-u
+invariant-loop-u l = (l.u ≤ 8) × (every (in_range l.shares) l.u ≡ true)
+
+abbrev pub decreases-loop-u : goal.decreases-loop-u
+decreases-loop-u l = 8 - l.u

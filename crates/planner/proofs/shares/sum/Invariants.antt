@@ -1,0 +1,15 @@
+-- `sum` adds the eight shares.
+use Prim.Native.Nat.{ℕ, ◌≤◌, ◌-◌, ◌+◌, ◌*◌}
+use native.Mathlib.Omega.{arith}
+use mathlib.Core.Path.{◌≡◌, ap, ◌∙◌}
+use Rattle.lists.specs.Lists.{total}
+use Rattle.lists.proofs.Total.{total_none, total_more}
+use Rattle.planner_rules.specs.Shares.{share}
+use borrow.Author.Rules.{rules}
+use Rattle.planner.proofs.shares.sum.Given as goal
+
+abbrev pub invariant-loop-u : goal.invariant-loop-u
+invariant-loop-u l = (l.u ≤ 8) × (l.k ≤ 255 * l.u) × (l.k ≡ total (share l.shares) l.u)
+
+abbrev pub decreases-loop-u : goal.decreases-loop-u
+decreases-loop-u l = 8 - l.u

@@ -1,0 +1,12 @@
+-- `short_at` reads a number of two bytes.
+use native.Mathlib.Omega.{arith}
+use Rattle.reader.proofs.fields.short_at.Goals as goal
+
+pub number_at-requires : goal.number_at-requires
+number_at-requires c = (omega arith, omega arith)
+
+pub overflow_cast-result : goal.overflow_cast-result
+overflow_cast-result c = omega arith
+
+pub returns : goal.returns
+returns c = c.number_at.ensures.0

@@ -1,0 +1,15 @@
+-- The first newline at or after a place, by a run of bytes that are none.
+use Prim.Native.Nat.{◌-◌}
+use mathlib.Core.Path.{◌≡◌, sym, ◌∙◌}
+use lib.ListN.{length}
+use Rattle.text_rules.specs.Line.{in_line, run_end, line_end}
+use Rattle.text_rules.proofs.Lines.{line_stops, line_goes, line_to}
+use Rattle.text_rules.proofs.Runs.{run_more, run_stop, run_none}
+use borrow.Author.Rules.{rules}
+use Rattle.text.proofs.line.line_end.Given as goal
+
+abbrev pub invariant-loop-i : goal.invariant-loop-i
+invariant-loop-i l = run_end in_line l.s l.i ≡ run_end in_line l.s l.at
+
+abbrev pub decreases-loop-i : goal.decreases-loop-i
+decreases-loop-i l = length l.s - l.i
