@@ -7,16 +7,14 @@ use Rattle.lists.proofs.Front.{length_mapped}
 use Rattle.planner.proofs.Passing.{plan_shown, plan_idle}
 use borrow.Author.Rules.{rules}
 use Rattle.planner.proofs.plan.make_plan.Goals as goal
-use Rattle.planner.proofs.plan.make_plan.Goals.{After-base-1, After-live-n, Start}
+use Rattle.planner.proofs.plan.make_plan.Goals.{Start}
 
 slots : (s : Start) → length s.args.w.list ≡ 128
 slots s = search (rules, length_mapped)
 
 pub returns-then-n-eq0 : goal.returns-then-n-eq0
 returns-then-n-eq0 c =
-    let n = counted search in
-    let s = n in
-    plan_idle s.args.s n.live.result s.args.w.n s.args.old s.args.w.list n.live.ensures.0 (slots s) c.if-n-eq0.true
+    plan_idle c.args.s c.live-n.result c.args.w.n c.args.old c.args.w.list c.live-n.ensures.0 (slots search) c.if-n-eq0.true
 
 pub over_slots-asks-requires : goal.over_slots-asks-requires
 over_slots-asks-requires c =
@@ -27,8 +25,5 @@ over_slots-asks-requires c =
 
 pub returns : goal.returns
 returns c =
-    let p = c in
-    let n = counted p in
-    let s = n in
-    plan_shown s.args.s n.live.result s.args.w.n s.args.old s.args.w.list n.live.ensures.0 (slots s) p.make_passes-r.result
-    c.over_slots-asks.result p.make_passes-r.ensures c.over_slots-asks.ensures
+    plan_shown c.args.s c.live-n.result c.args.w.n c.args.old c.args.w.list c.live-n.ensures.0 (slots search) c.make_passes-r.result
+    c.over_slots-asks.result c.make_passes-r.ensures c.over_slots-asks.ensures

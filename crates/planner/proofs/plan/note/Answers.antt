@@ -9,7 +9,5 @@ use Rattle.planner.proofs.plan.note.Goals as goal
 pub returns : goal.returns
 unfolding noted
 returns c =
-    let at_wide = c in
-    let at_of = c in
-    let w = at_wide.wide-at.ensures in
-    let o = at_of.of-q.ensures in let to = ap (λ (r : Exchange). r.to) o.0 in (rw (w, o.0), omega (arith, w, o.1.to, to))
+    let w = c.wide-at.ensures in
+    let o = c.of-q.ensures in let to = ap (λ (r : Exchange). r.to) o.0 in (rw (w, o.0), omega (arith, w, o.1.to, to))

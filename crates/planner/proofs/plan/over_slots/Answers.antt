@@ -12,22 +12,18 @@ use Rattle.planner.proofs.plan.over_slots.Invariants.{itself}
 use Rattle.planner.proofs.plan.over_slots.Goals as goal
 
 pub loop-i-init : goal.loop-i-init
-loop-i-init c = (search rules, copied_none itself c.args.t3 c.args.base)
+loop-i-init c = (search rules, copied_none itself c.args.asks c.args.base)
 
 pub loop-i-preserved : goal.loop-i-preserved
 loop-i-preserved c =
-    let l = c in
-    let s = l in
-    let e : length s.args.t3 ≡ 128 = search (rules, length_mapped) in
-    let f : length s.args.base ≡ 128 = search (rules, length_mapped) in (
+    let e : length c.args.asks ≡ 128 = search (rules, length_mapped) in
+    let f : length c.args.base ≡ 128 = search (rules, length_mapped) in (
       search rules,
-      copied_more itself s.args.t3 s.args.base l.loop-i.i l.loop-i.out _ (omega (arith, s.requires)) (omega (arith, s.requires)) l.loop-i.invariant.1,
+      copied_more itself c.args.asks c.args.base c.loop-i.i c.loop-i.out _ (omega (arith, c.requires)) (omega (arith, c.requires)) c.loop-i.invariant.1,
     )
 
 pub returns : goal.returns
 returns c =
-    let l = c in
-    let s = l in
-    let e : length s.args.t3 ≡ 128 = search (rules, length_mapped) in
-    copied_front itself s.args.n s.args.t3 s.args.base l.loop-i.i l.loop-i.out (omega (arith, s.requires)) l.loop-i.invariant.1
-    ∙ rw (map-id (take s.args.n s.args.t3))
+    let e : length c.args.asks ≡ 128 = search (rules, length_mapped) in
+    copied_front itself c.args.n c.args.asks c.args.base c.loop-i.i c.loop-i.out (omega (arith, c.requires)) c.loop-i.invariant.1
+    ∙ rw (map-id (take c.args.n c.args.asks))

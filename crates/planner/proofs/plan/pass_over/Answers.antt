@@ -10,7 +10,7 @@ use Rattle.planner.proofs.Rows.{shown_placed}
 use Rattle.planner.proofs.Passing.{Passing, pass_start, pass_small, pass_limit, pass_stay, pass_at, pass_end}
 use borrow.Author.Rules.{rules}
 use Rattle.planner.proofs.plan.pass_over.Goals as goal
-use Rattle.planner.proofs.plan.pass_over.Goals.{After-entry_at, After-first_fit, After-share-in-loop-i, At-loop-i, In-loop-i}
+use Rattle.planner.proofs.plan.pass_over.Goals.{At-loop-i}
 
 -- ---- places of the code: the slots at the loop's test, and the test from what follows it
 abbrev slots : At-loop-i → Planned
@@ -18,83 +18,62 @@ slots l = record { placed = l.loop-i.placed; entries = l.loop-i.entries; waiting
 
 pub loop-i-init : goal.loop-i-init
 loop-i-init c =
-    let s = c in (
-      pass_start s.args.l s.args.limits s.args.b _ s.requires.3 s.requires.1 (search (rules, length_mapped)) (search (rules, length_mapped)),
+    (
+      pass_start c.args.l c.args.limits c.args.b _ c.requires.3 c.requires.1 (search (rules, length_mapped)) (search (rules, length_mapped)),
       search rules,
       search (rules, length_mapped),
-      s.requires.2,
+      c.requires.2,
     )
 
 pub loop-i-preserved-then-share : goal.loop-i-preserved-then-share
 loop-i-preserved-then-share c =
-    let at-share = c in
-    let x = shared search in
-    let l = x in
-    let s = l in (
-      pass_limit s.args.l s.args.limits s.args.b l.loop-i.i l.loop-i.counts (slots l) l.loop-i.invariant.0 _ x.if1.true _ _
-          l.loop-i.invariant.1 at-share.share.ensures.0 c.share-in-loop-i.ensures.0 c.if-share.true,
-      l.loop-i.invariant.1,
-      l.loop-i.invariant.2,
-      l.loop-i.invariant.3,
+    (
+      pass_limit c.args.l c.args.limits c.args.b c.loop-i.i c.loop-i.counts (slots search) c.loop-i.invariant.0 _ c.loop-i-test.true _ _
+          c.loop-i.invariant.1 c.share.ensures.0 c.share-in-loop-i.ensures.0 c.if-share.true,
+      c.loop-i.invariant.1,
+      c.loop-i.invariant.2,
+      c.loop-i.invariant.3,
     )
 
 pub one_more-requires : goal.one_more-requires
 one_more-requires c =
-    let x = shared (fitted c) in
-    let l = x in
-    let s = l in
-    (l.loop-i.invariant.0.tallied.eight, pass_small s.args.l s.args.limits s.args.b l.loop-i.i l.loop-i.counts (slots l) l.loop-i.invariant.0 _)
+    (c.loop-i.invariant.0.tallied.eight, pass_small c.args.l c.args.limits c.args.b c.loop-i.i c.loop-i.counts (slots search) c.loop-i.invariant.0 _)
 
 pub overflow_add-placed : goal.overflow_add-placed
 overflow_add-placed c =
-    let x = shared (fitted c) in
-    let h = x.loop.invariant.0 in
+    let h = c.loop-i.invariant.0 in
     record { fits = omega (arith, h.sum, h.upto, h.room) }
 
 pub loop-i-preserved-in-At : goal.loop-i-preserved-in-At
 loop-i-preserved-in-At c =
-    let at-note = c in
-    let e = c in
-    let f = entered search in
-    let g = fitted f in
-    let x = shared g in
-    let l = x in
-    let s = l in
-    let h = l.loop-i.invariant.0 in
-    let below : l.loop-i.placed < 128 = omega (arith, h.sum, h.room, x.if1.true) in
-    let inside : l.loop-i.placed < length l.loop-i.entries = omega (arith, l.loop-i.invariant.2) in
-    let all : l.loop-i.placed ≤ length l.loop-i.entries = omega (arith, inside) in
-    let v = e in (
-      pass_at s.args.l s.args.limits s.args.b l.loop-i.i l.loop-i.counts (slots l) h _ x.if1.true _ _ l.loop-i.invariant.1
-          g.share.ensures.0 g.share2.ensures.0 f.if2.false v.t-1.given.0.0 e.entry_at.result
-          c.one_more.new.0 e.entry_at.ensures c.one_more.ensures
-          (sym v.t-1.given.1 ∙ f.first-fit.ensures l.loop-i.entries all l.loop-i.invariant.3),
-      l.loop-i.invariant.1,
-      length-set l.loop-i.entries l.loop-i.placed e.entry_at.result ∙ l.loop-i.invariant.2,
-      shown_placed l.loop-i.rows at-note.note.last.0 l.loop-i.placed l.loop-i.entries _ e.entry_at.result at-note.note.ensures.0
-          e.entry_at.ensures at-note.note.ensures.1 inside below l.loop-i.invariant.3,
+    let h = c.loop-i.invariant.0 in
+    let below : c.loop-i.placed < 128 = omega (arith, h.sum, h.room, c.loop-i-test.true) in
+    let inside : c.loop-i.placed < length c.loop-i.entries = omega (arith, c.loop-i.invariant.2) in
+    let all : c.loop-i.placed ≤ length c.loop-i.entries = omega (arith, inside) in
+    (
+      pass_at c.args.l c.args.limits c.args.b c.loop-i.i c.loop-i.counts (slots search) h _ c.loop-i-test.true _ _ c.loop-i.invariant.1
+          c.share.ensures.0 c.share-in-loop-i.ensures.0 c.if-share.false c.in-At.t c.entry_at.result
+          c.one_more.new.counts c.entry_at.ensures c.one_more.ensures
+          (sym c.in-At.is ∙ c.first_fit.ensures c.loop-i.entries all c.loop-i.invariant.3),
+      c.loop-i.invariant.1,
+      length-set c.loop-i.entries c.loop-i.placed c.entry_at.result ∙ c.loop-i.invariant.2,
+      shown_placed c.loop-i.rows c.note.new.rows c.loop-i.placed c.loop-i.entries _ c.entry_at.result c.note.ensures.0
+          c.entry_at.ensures c.note.ensures.1 inside below c.loop-i.invariant.3,
     )
 
 pub loop-i-preserved : goal.loop-i-preserved
 loop-i-preserved c =
-    let f = c in
-    let g = fitted search in
-    let x = shared g in
-    let l = x in
-    let s = l in
-    let h = l.loop-i.invariant.0 in
-    let all : l.loop-i.placed ≤ length l.loop-i.entries = omega (arith, h.sum, h.upto, h.room, l.loop-i.invariant.2) in (
-      pass_stay s.args.l s.args.limits s.args.b l.loop-i.i l.loop-i.counts (slots l) h _ x.if1.true _ _ l.loop-i.invariant.1
-          g.share.ensures.0 g.share2.ensures.0 f.if-share.false
-          (sym c.enum_told-1.given.1 ∙ f.first_fit.ensures l.loop-i.entries all l.loop-i.invariant.3),
-      l.loop-i.invariant.1,
-      l.loop-i.invariant.2,
-      l.loop-i.invariant.3,
+    let h = c.loop-i.invariant.0 in
+    let all : c.loop-i.placed ≤ length c.loop-i.entries = omega (arith, h.sum, h.upto, h.room, c.loop-i.invariant.2) in (
+      pass_stay c.args.l c.args.limits c.args.b c.loop-i.i c.loop-i.counts (slots search) h _ c.loop-i-test.true _ _ c.loop-i.invariant.1
+          c.share.ensures.0 c.share-in-loop-i.ensures.0 c.if-share.false
+          (sym c.in-Nowhere.is ∙ c.first_fit.ensures c.loop-i.entries all c.loop-i.invariant.3),
+      c.loop-i.invariant.1,
+      c.loop-i.invariant.2,
+      c.loop-i.invariant.3,
     )
 
 pub returns : goal.returns
 returns c =
-    let l = c in
-    let s = l in
-    pass_end s.args.l s.args.limits s.args.b l.loop-i.i l.loop-i.rows l.loop-i.counts (slots search) c.loop-i-test.false l.loop-i.invariant.0
-    l.loop-i.invariant.3
+    pass_end c.args.l c.args.limits c.args.b c.loop-i.i c.loop-i.rows c.loop-i.counts (slots search) c.loop-i-test.false c.loop-i.invariant.0
+    c.loop-i.invariant.3

@@ -6,31 +6,23 @@ use borrow.Author.Rules.{rules}
 use Rattle.planner.proofs.search.bump.Goals as goal
 
 pub returns-then-address-its : goal.returns-then-address-its
-returns-then-address-its c = let p4 = c in
-    let p3 = p4 in
-    let p2 = p3 in
-    let p1 = p2 in
-    let g = p1.args in
+returns-then-address-its c = let g = c.args in
     record {
-      up = omega (arith, p1.past-t1.ensures.up, p2.past-t2.ensures.up, p3.past-t3.ensures.up, p4.past-t4.ensures.up, c.past.ensures.up);
+      up = omega (arith, c.past-t1.ensures.up, c.past-t2.ensures.up, c.past-t3.ensures.up, c.past-t4.ensures.up, c.past.ensures.up);
       cap = c.past.ensures.cap;
       step =
-          λ a e x y h1 h2 h3 h4 h5. one_aircraft a e g.t g.p g.at g.sent g.from g.end x h1 h2 h3 h4 p1.past-t1.result p2.past-t2.result
-          p3.past-t3.result p4.past-t4.result c.past.result p1.past-t1.ensures p2.past-t2.ensures p3.past-t3.ensures p4.past-t4.ensures
+          λ a e x y h1 h2 h3 h4 h5. one_aircraft a e g.t g.p g.at g.sent g.from g.end x h1 h2 h3 h4 c.past-t1.result c.past-t2.result
+          c.past-t3.result c.past-t4.result c.past.result c.past-t1.ensures c.past-t2.ensures c.past-t3.ensures c.past-t4.ensures
           (sym y ∙ c.if-address-its.true ∙ h5) c.past.ensures;
     }
 
 pub returns : goal.returns
-returns c = let p4 = c in
-    let p3 = p4 in
-    let p2 = p3 in
-    let p1 = p2 in
-    let g = p1.args in
+returns c = let g = c.args in
     record {
-      up = omega (arith, p1.past-t1.ensures.up, p2.past-t2.ensures.up, p3.past-t3.ensures.up, p4.past-t4.ensures.up);
-      cap = p4.past-t4.ensures.cap;
+      up = omega (arith, c.past-t1.ensures.up, c.past-t2.ensures.up, c.past-t3.ensures.up, c.past-t4.ensures.up);
+      cap = c.past-t4.ensures.cap;
       step =
-          λ a e x y h1 h2 h3 h4 h5. two_aircraft a e g.t g.p g.at g.sent g.from g.end x h1 h2 h3 h4 p1.past-t1.result p2.past-t2.result
-          p3.past-t3.result p4.past-t4.result p1.past-t1.ensures p2.past-t2.ensures p3.past-t3.ensures p4.past-t4.ensures
+          λ a e x y h1 h2 h3 h4 h5. two_aircraft a e g.t g.p g.at g.sent g.from g.end x h1 h2 h3 h4 c.past-t1.result c.past-t2.result
+          c.past-t3.result c.past-t4.result c.past-t1.ensures c.past-t2.ensures c.past-t3.ensures c.past-t4.ensures
           (λ q. c.if-address-its.false (y ∙ q ∙ sym h5));
     }

@@ -5,21 +5,19 @@ use borrow.Author.Rules.{rules}
 use Rattle.planner.proofs.search.nudge.Goals as goal
 
 pub returns-then-end-t : goal.returns-then-end-t
-returns-then-end-t c = let s = c in
-    let g = s.args in
+returns-then-end-t c = let g = c.args in
     record {
       up = omega arith;
-      cap = s.requires.0;
-      step = λ a e x y h. entry_over a e g.t g.p _ _ _ _ x h.start h.sent h.from h.end s.requires.0 c.if-end-t.true;
+      cap = c.requires.0;
+      step = λ a e x y h. entry_over a e g.t g.p _ _ _ _ x h.start h.sent h.from h.end c.requires.0 c.if-end-t.true;
     }
 
 pub returns-then-t-p : goal.returns-then-t-p
-returns-then-t-p c = let s = c in
-    let g = s.args in
+returns-then-t-p c = let g = c.args in
     record {
       up = omega arith;
-      cap = s.requires.0;
-      step = λ a e x y h. request_over a e g.t g.p _ _ _ _ x h.start h.sent h.from h.end s.requires.0 c.if-t-p.true;
+      cap = c.requires.0;
+      step = λ a e x y h. request_over a e g.t g.p _ _ _ _ x h.start h.sent h.from h.end c.requires.0 c.if-t-p.true;
     }
 
 pub returns : goal.returns

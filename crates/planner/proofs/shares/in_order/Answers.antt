@@ -16,28 +16,21 @@ loop-u-init c = (search rules, every_none (ordered c.args.guarantee c.args.ceili
 
 pub returns-then-share : goal.returns-then-share
 returns-then-share c =
-    let at-loop = c in
-    let at-share = c in
-    let s = c in
-    let p = ordered s.args.guarantee s.args.ceiling in
-    let l = at-loop.loop-u in
-    let v = at-share.share.ensures.0 in
+    let p = ordered c.args.guarantee c.args.ceiling in
+    let l = c.loop-u in
+    let v = c.share.ensures.0 in
     let w = c.share-in-loop-u.ensures.0 in
-    sym (every_fails p 8 l.u (search rules) (lt-leb (share s.args.guarantee l.u) (share s.args.ceiling l.u) (omega arith)))
+    sym (every_fails p 8 l.u (search rules) (lt-leb (share c.args.guarantee l.u) (share c.args.ceiling l.u) (omega arith)))
 
 pub loop-u-preserved : goal.loop-u-preserved
 loop-u-preserved c =
-    let at-loop = c in
-    let at-share = c in
-    let s = c in
-    let p = ordered s.args.guarantee s.args.ceiling in
-    let l = at-loop.loop-u in
-    let v = at-share.share.ensures.0 in
+    let p = ordered c.args.guarantee c.args.ceiling in
+    let l = c.loop-u in
+    let v = c.share.ensures.0 in
     let w = c.share-in-loop-u.ensures.0 in
-    (search rules, every_more p l.u l.invariant.1 (le-leb (share s.args.guarantee l.u) (share s.args.ceiling l.u) (omega arith)))
+    (search rules, every_more p l.u l.invariant.1 (le-leb (share c.args.guarantee l.u) (share c.args.ceiling l.u) (omega arith)))
 
 pub returns : goal.returns
 returns c =
-    let start = c in
-    let p = ordered start.args.guarantee start.args.ceiling in
+    let p = ordered c.args.guarantee c.args.ceiling in
     let e : c.loop-u.u ≡ 8 = search rules in sym (ap (every p) (sym e) ∙ c.loop-u.invariant.1)

@@ -16,19 +16,15 @@ loop-u-init c = (search rules, every_none (in_range c.args.shares))
 
 pub returns-then-share-gt16 : goal.returns-then-share-gt16
 returns-then-share-gt16 c =
-    let at-loop = c in
-    let s = c in
-    let p = in_range s.args.shares in
-    let l = at-loop.loop-u in
-    let v = c.share.ensures.0 in sym (every_fails p 8 l.u (search rules) (lt-leb (share s.args.shares l.u) 16 (omega arith)))
+    let p = in_range c.args.shares in
+    let l = c.loop-u in
+    let v = c.share.ensures.0 in sym (every_fails p 8 l.u (search rules) (lt-leb (share c.args.shares l.u) 16 (omega arith)))
 
 pub loop-u-preserved : goal.loop-u-preserved
 loop-u-preserved c =
-    let at-loop = c in
-    let s = c in
-    let p = in_range s.args.shares in
-    let l = at-loop.loop-u in
-    let v = c.share.ensures.0 in (search rules, every_more p l.u l.invariant.1 (le-leb (share s.args.shares l.u) 16 (omega arith)))
+    let p = in_range c.args.shares in
+    let l = c.loop-u in
+    let v = c.share.ensures.0 in (search rules, every_more p l.u l.invariant.1 (le-leb (share c.args.shares l.u) 16 (omega arith)))
 
 pub returns : goal.returns
 returns c = let p = in_range c.args.shares in

@@ -5,7 +5,7 @@ use borrow.Author.Rules.{rules}
 use Rattle.planner.proofs.shares.share.Goals as goal
 
 pub returns-then-unit-ge8 : goal.returns-then-unit-ge8
-returns-then-unit-ge8 c = (sym (get_or-eq_default c.args.t1 0 (search rules)), search rules)
+returns-then-unit-ge8 c = (sym (get_or-eq_default c.args.shares 0 (search rules)), search rules)
 
 pub returns : goal.returns
 returns c = c.byte.ensures

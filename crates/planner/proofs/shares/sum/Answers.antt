@@ -15,11 +15,9 @@ pub overflow_add-k : goal.overflow_add-k
 overflow_add-k c = let s = c.share-k.ensures in record { fits = omega arith }
 
 pub loop-u-preserved : goal.loop-u-preserved
-loop-u-preserved c = let l = c in
-    let s = c.share-k.ensures in
-    (omega arith, omega arith, ap (λ (n : ℕ). l.loop-u.k + n) s.0 ∙ total_more (share l.args.shares) l.loop-u.u l.loop-u.k l.loop-u.invariant.2)
+loop-u-preserved c = let s = c.share-k.ensures in
+    (omega arith, omega arith, ap (λ (n : ℕ). c.loop-u.k + n) s.0 ∙ total_more (share c.args.shares) c.loop-u.u c.loop-u.k c.loop-u.invariant.2)
 
 pub returns : goal.returns
-returns c = let l = c in
-    let e : l.loop-u.u ≡ 8 = search rules in
-    (l.loop-u.invariant.2 ∙ ap (total (share l.args.shares)) e, search rules)
+returns c = let e : c.loop-u.u ≡ 8 = search rules in
+    (c.loop-u.invariant.2 ∙ ap (total (share c.args.shares)) e, search rules)
