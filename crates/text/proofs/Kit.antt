@@ -40,7 +40,9 @@ raise_by d false e = rw (e, le-ltb (87 + d) 97 (omega (arith, ltb-false d 10 e))
 raised : (k n : ℕ) → map upper_of (last_digits 16 k n) ≡ hex_in k n
 unfolding hex_in
 raised zero n = refl
-raised (suc k) n = map-append upper_of (last_digits 16 k (n / 16)) (hex_digit_ascii (n % 16) ∷ []) ∙ rw (raised k (n / 16), raise_by (n % 16) (ltb (n % 16) 10) refl)
+raised (suc k) n =
+    map-append upper_of (last_digits 16 k (n / 16)) (hex_digit_ascii (n % 16) ∷ [])
+    ∙ rw (raised k (n / 16), raise_by (n % 16) (ltb (n % 16) 10) refl)
 
 width_by : (w n k : ℕ) (v : Bool) → ltb w k ≡ v → n < 16 ^ w → w ≤ k → (w < k → 16 ^ (k - 1) ≤ n) → k ≡ w
 width_by w n k true e a b c =

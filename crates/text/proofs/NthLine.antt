@@ -1,15 +1,15 @@
 -- The lines of a text one after the other: what a loop over them keeps true.
-use Prim.Native.Nat.{ℕ, suc, ◌+◌, ◌-◌, ◌≤◌, ◌<◌, min}
+use Prim.Native.Nat.{ℕ, ◌+◌, ◌-◌, ◌≤◌, ◌<◌, min}
 use native.Mathlib.Omega.{arith}
 use mathlib.Core.Path.{◌≡◌, refl, sym, ap, ◌∙◌}
 use mathlib.Core.Bool.{Bool, true, false}
-use mathlib.Core.List.{List, [], ◌∷◌}
+use mathlib.Core.List.{List, []}
 use lib.Dec.{ltb}
-use lib.ListN.{length, get_or, take, drop, drop_of_length-le}
+use lib.ListN.{length, get_or, drop, drop_of_length-le}
 use lib.Seq.{take-nil, drop-drop, get_or-drop}
 use borrow.Author.Tests.{ltb-true, ltb-false}
 use Rattle.text_rules.specs.declared.answer.Span.{Span}
-use Rattle.text_rules.specs.Line.{parts, lines_of, line_end, line_after, line_at, within, LineTo, LineHeld, NthLine}
+use Rattle.text_rules.specs.Line.{parts, lines_of, line_end, line_after, line_at, LineTo, LineHeld, NthLine}
 use Rattle.text_rules.proofs.Lines.{lines_next, line_end_after}
 
 -- a loop has come to the i-th line, which begins at the place at

@@ -1,14 +1,10 @@
 -- `parity::correction::rebuild` meets its contract. The invariant: j bytes of the output and of the places are written.
-use mathlib.Core.Path.{◌≡◌, refl}
+use mathlib.Core.Path.{◌≡◌}
 use Prim.Native.Nat.{◌-◌, ◌≤◌}
-use native.Mathlib.Omega.{arith}
-use lib.ListN.{length, length-set}
+use lib.ListN.{length}
 use Rattle.parity_rules.specs.Messages.{bits}
 use Rattle.parity_rules.specs.Correction.{matching, first}
-use Rattle.parity_rules.proofs.Bits.{bits_length}
-use Rattle.parity_rules.proofs.Choosing.{left_first}
-use Rattle.parity_rules.proofs.Written.{Written, written_start, written_step, written_end}
-use borrow.Author.Rules.{rules}
+use Rattle.parity_rules.proofs.Written.{Written}
 use Rattle.parity.proofs.correction.rebuild.Given as goal
 
 abbrev pub invariant-loop-j : goal.invariant-loop-j

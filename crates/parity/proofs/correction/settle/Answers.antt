@@ -1,6 +1,5 @@
 -- `parity::correction::settle` meets its contract: how many subsets match decides, and the one match is rebuilt.
-use mathlib.Core.Path.{◌∙◌}
-use borrow.Author.Rules.{rules}
+use Rattle.std.proofs.Common.{rules, ◌∙◌}
 use Rattle.lists.proofs.Checks.{all, stop, end}
 use Rattle.parity_rules.specs.Answers.{not_corrected}
 use Rattle.parity_rules.proofs.Match.{one_found, found}
@@ -14,10 +13,10 @@ pub returns-then-found-ne1 : goal.returns-then-found-ne1
 returns-then-found-ne1 c = stop (not_corrected _) _ 13 all (search found depth 12) (search found)
 
 pub rebuild-requires : goal.rebuild-requires
-rebuild-requires c = (search rules, search rules, search rules, search rules, record { few = search rules; only = one _ (search one_found); rest = search rules })
+rebuild-requires c =
+    (search rules, search rules, search rules, search rules, record { few = search rules; only = one _ (search one_found); rest = search rules })
 
 pub returns : goal.returns
-returns c = (λ c.
-    let at = c in
-    cc (at.rebuild.ensures.0, at.rebuild.ensures.1.0, at.rebuild.ensures.1.1)
-    ∙ end (not_corrected _) _ all (search found depth 12)) c
+returns c =
+    let e = c.rebuild.ensures in
+    cc (e.value, e.out_after, e.places_after) ∙ end (not_corrected _) _ all (search found depth 12)

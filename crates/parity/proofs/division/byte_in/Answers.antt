@@ -2,7 +2,6 @@
 use mathlib.Core.Path.{ap, ◌∙◌, subst, sym}
 use Prim.Native.Nat.{ℕ, ◌+◌, ◌*◌, ◌%◌, ◌<◌}
 use native.Mathlib.Omega.{arith}
-use borrow.Author.Rules.{rules}
 use lib.Bits.{bit_xor}
 use Rattle.parity_rules.proofs.Linear.{byte_law, byte_bits, divide_lt}
 use Rattle.parity.proofs.division.byte_in.Goals as goal

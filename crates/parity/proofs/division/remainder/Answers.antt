@@ -2,7 +2,6 @@
 use mathlib.Core.Path.{ap, ◌∙◌}
 use mathlib.Core.List.{[], ◌∷◌}
 use Prim.Native.Nat.{ℕ}
-use borrow.Author.Rules.{rules}
 use Rattle.lists.specs.Answers.{done, refused_by}
 use Rattle.lists.proofs.Checks.{all, stop, end, tests}
 use Rattle.parity_rules.specs.Division.{remainder_answer}

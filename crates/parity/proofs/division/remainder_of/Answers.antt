@@ -1,7 +1,7 @@
 -- `parity::division::remainder_of` meets its contract. The invariant: dividing on from here, over the bytes left, gives the message's remainder.
-use mathlib.Core.Path.{◌≡◌, refl, ◌∙◌}
+use mathlib.Core.Path.{◌≡◌, ◌∙◌}
 use mathlib.Core.List.{List, []}
-use Prim.Native.Nat.{ℕ, ◌+◌, ◌-◌, ◌<◌, ◌≤◌}
+use Prim.Native.Nat.{ℕ, ◌+◌, ◌<◌}
 use native.Mathlib.Numerals.{add-one}
 use native.Mathlib.Omega.{arith}
 use lib.ListN.{length, drop, get_or, drop_of_length-le}
@@ -16,28 +16,14 @@ turn : (msg : List ℕ) (i r q : ℕ) → i < length msg → q ≡ divide r (byt
 unfolding bits divide
 turn msg i r q h e = rw (add-one i, drop-cons msg i 0 h, e)
 
-pub loop-i-init : goal.loop-i-init
-loop-i-init c = (omega arith, omega arith, refl)
-
-pub bounds-msg-i : goal.bounds-msg-i
-bounds-msg-i c = omega arith
-
-pub byte_in-r-requires : goal.byte_in-r-requires
-byte_in-r-requires c = omega arith
-
-pub overflow_add-i : goal.overflow_add-i
-overflow_add-i c = omega arith
-
-pub loop-i-smaller : goal.loop-i-smaller
-loop-i-smaller c = omega arith
-
 pub loop-i-preserved : goal.loop-i-preserved
 loop-i-preserved c =
-    let at-loop = c in
-    let l = at-loop.loop-i in (omega arith, omega arith, turn _ l.i l.r _ (omega arith) c.byte_in-r.ensures.0 ∙ l.invariant.2)
+    let l = c.loop-i in (omega arith, omega arith, turn _ l.i l.r _ (omega arith) c.byte_in-r.ensures.0 ∙ l.invariant.2)
 
 pub returns : goal.returns
 unfolding remainder_of bits divide
 returns c =
-    let start = c in
-    let l = c.loop-i in let m = start.args.msg.now in let d : drop l.i m ≡ [] = drop_of_length-le m {i = l.i} (omega arith) in rw d at l.invariant.2
+    let l = c.loop-i in
+    let m = c.args.msg.now in
+    let d : drop l.i m ≡ [] = drop_of_length-le m {i = l.i} (omega arith) in
+    rw d at l.invariant.2

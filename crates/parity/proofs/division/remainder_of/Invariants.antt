@@ -1,13 +1,9 @@
 -- `parity::division::remainder_of` meets its contract. The invariant: dividing on from here, over the bytes left, gives the message's remainder.
-use mathlib.Core.Path.{◌≡◌, refl, ◌∙◌}
-use mathlib.Core.List.{List, []}
-use Prim.Native.Nat.{ℕ, ◌+◌, ◌-◌, ◌<◌, ◌≤◌}
-use native.Mathlib.Numerals.{add-one}
-use native.Mathlib.Omega.{arith}
-use lib.ListN.{length, drop, get_or, drop_of_length-le}
-use lib.Seq.{drop-cons}
-use Rattle.parity_rules.specs.Messages.{bits, byte_then}
-use Rattle.parity_rules.specs.Division.{divide, remainder_of}
+use mathlib.Core.Path.{◌≡◌}
+use Prim.Native.Nat.{◌-◌, ◌<◌, ◌≤◌}
+use lib.ListN.{length, drop}
+use Rattle.parity_rules.specs.Messages.{bits}
+use Rattle.parity_rules.specs.Division.{divide}
 use Rattle.parity.proofs.division.remainder_of.Given as goal
 
 abbrev pub invariant-loop-i : goal.invariant-loop-i

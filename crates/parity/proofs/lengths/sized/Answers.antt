@@ -1,6 +1,5 @@
 -- `parity::lengths::sized` meets its contract: the tests of the buffers, then that of the message.
 use mathlib.Core.Path.{sym, ◌∙◌}
-use borrow.Author.Rules.{rules}
 use borrow.Author.Tests.{eq-eqb, ne_eqb}
 use Rattle.parity.proofs.lengths.sized.Goals as goal
 
@@ -21,13 +20,10 @@ returns-then-places-n c =
 
 pub returns : goal.returns
 returns c =
-    let start = c in
-    let else1 = c in
-    let else2 = c in
-    let a = start.args in
+    let a = c.args in
     c.seven_or_fourteen.ensures
     ∙ sym (rw (
-      eq-eqb a.marks a.n else1.if-marks-n.false,
-      eq-eqb a.out a.n else2.if-out-n.false,
+      eq-eqb a.marks a.n c.if-marks-n.false,
+      eq-eqb a.out a.n c.if-out-n.false,
       eq-eqb a.places a.n c.if-places-n.false,
     ))

@@ -1,12 +1,9 @@
 -- `parity::marks::gather` meets its contract. The invariant: the places from n - k on are gathered.
-use mathlib.Core.Path.{◌≡◌, refl, sym, subst}
-use Prim.Native.Nat.{ℕ, ◌-◌, ◌*◌, ◌<◌, ◌≤◌}
-use native.Mathlib.Omega.{arith}
+use mathlib.Core.Path.{◌≡◌}
+use Prim.Native.Nat.{◌-◌, ◌*◌, ◌≤◌}
 use lib.ListN.{length, drop}
 use Rattle.parity_rules.specs.Messages.{bits}
 use Rattle.parity_rules.specs.Steps.{Gathered}
-use Rattle.parity_rules.proofs.Bits.{bits_length, bits_are, are_at}
-use Rattle.parity_rules.proofs.Kept.{gathered_none, gathered_next, gathered_all}
 use Rattle.parity.proofs.marks.gather.Given as goal
 
 abbrev pub invariant-loop-k : goal.invariant-loop-k

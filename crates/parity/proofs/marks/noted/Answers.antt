@@ -1,9 +1,5 @@
 -- `parity::marks::noted` meets its contract: an unmarked bit adds nothing, a marked one its syndrome while there is room.
-use mathlib.Core.Path.{◌≡◌}
-use lib.ListN.{length-set}
-use native.Mathlib.Numerals.{add-one}
-use native.Mathlib.Omega.{arith}
-use borrow.Author.Rules.{rules}
+use Rattle.std.proofs.Common.{◌≡◌, length-set, add-one, arith}
 use Rattle.parity_rules.proofs.Kept.{back_set}
 use Rattle.parity.proofs.marks.noted.Goals as goal
 
@@ -15,8 +11,7 @@ returns-then-many-ge12 c = record { room = omega arith; counted = omega arith; k
 
 pub returns : goal.returns
 returns c =
-    let start = c in
-    let a = start.args in
+    let a = c.args in
     let e : a.b ≡ 1 = omega arith in
     record {
       room = simp length-set (omega arith);

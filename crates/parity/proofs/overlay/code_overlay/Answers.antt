@@ -1,5 +1,4 @@
 -- `parity::overlay::code_overlay` meets its contract: the two ranges, then the sum.
-use borrow.Author.Rules.{rules}
 use Rattle.lists.specs.Answers.{refused_by}
 use Rattle.lists.proofs.Tests.{and_no_left, and_no_right, and_yes}
 use Rattle.lists.proofs.Checks.{all, stop, end, tests}

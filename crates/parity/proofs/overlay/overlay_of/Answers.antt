@@ -1,6 +1,6 @@
 -- `parity::overlay::overlay_of` meets its contract. The invariant: going on from here, over the bits left, gives the product.
-use mathlib.Core.Path.{◌≡◌, refl, ap}
-use Prim.Native.Nat.{ℕ, ◌-◌, ◌/◌, ◌<◌, ◌≤◌, ◌^◌}
+use mathlib.Core.Path.{◌≡◌, ap}
+use Prim.Native.Nat.{ℕ, ◌/◌, ◌<◌, ◌^◌}
 use native.Mathlib.Nat.{lt_of_lt_of_le}
 use native.Mathlib.Omega.{arith}
 use lib.Pow.{pow_mono}
@@ -13,26 +13,8 @@ use Rattle.parity.proofs.overlay.overlay_of.Goals.{At-loop-i}
 small : (c : At-loop-i) → c.loop-i.p < 2 ^ 48
 small c = lt_of_lt_of_le c.loop-i.invariant.1 (pow_mono {j = 48} (omega arith))
 
-pub loop-i-init : goal.loop-i-init
-loop-i-init c = (omega arith, omega arith, refl)
-
-pub overflow_sub-i : goal.overflow_sub-i
-overflow_sub-i c = omega arith
-
-pub overflow_shr-b : goal.overflow_shr-b
-overflow_shr-b c = omega arith
-
-pub overflow_cast-b : goal.overflow_cast-b
-overflow_cast-b c = omega arith
-
 pub overflow_mul-p : goal.overflow_mul-p
 overflow_mul-p c = omega (arith, small search)
-
-pub overflow_mul-p-in-loop-i : goal.overflow_mul-p-in-loop-i
-overflow_mul-p-in-loop-i c = omega arith
-
-pub loop-i-smaller : goal.loop-i-smaller
-loop-i-smaller c = omega arith
 
 pub loop-i-preserved : goal.loop-i-preserved
 loop-i-preserved c =

@@ -1,11 +1,7 @@
 -- `parity::overlay::overlay_of` meets its contract. The invariant: going on from here, over the bits left, gives the product.
-use mathlib.Core.Path.{◌≡◌, refl, ap}
-use Prim.Native.Nat.{ℕ, ◌-◌, ◌/◌, ◌<◌, ◌≤◌, ◌^◌}
-use native.Mathlib.Nat.{lt_of_lt_of_le}
-use native.Mathlib.Omega.{arith}
-use lib.Pow.{pow_mono}
-use Rattle.parity_rules.specs.Overlays.{low_bits, times, overlay_of}
-use Rattle.parity_rules.proofs.Product.{turn}
+use mathlib.Core.Path.{◌≡◌}
+use Prim.Native.Nat.{◌-◌, ◌<◌, ◌≤◌, ◌^◌}
+use Rattle.parity_rules.specs.Overlays.{low_bits, times}
 use Rattle.parity.proofs.overlay.overlay_of.Given as goal
 
 abbrev pub invariant-loop-i : goal.invariant-loop-i

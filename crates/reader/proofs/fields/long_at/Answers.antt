@@ -3,11 +3,5 @@ use native.Mathlib.Omega.{arith}
 use Rattle.reader.proofs.Numbers.{bytes_below}
 use Rattle.reader.proofs.fields.long_at.Goals as goal
 
-pub number_at-requires : goal.number_at-requires
-number_at-requires c = (omega arith, omega arith)
-
 pub overflow_cast-result : goal.overflow_cast-result
 overflow_cast-result c = omega (arith, bytes_below c.args.k 4 (omega arith))
-
-pub returns : goal.returns
-returns c = c.number_at.ensures.0

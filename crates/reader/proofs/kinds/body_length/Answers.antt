@@ -2,7 +2,6 @@
 use mathlib.Core.Path.{refl}
 use Rattle.reader_rules.specs.Records.{body_length}
 use Rattle.reader.proofs.Numbers.{body_none}
-use borrow.Author.Rules.{rules}
 use Rattle.reader.proofs.kinds.body_length.Goals as goal
 
 pub returns-then-kind-gt9 : goal.returns-then-kind-gt9

@@ -1,10 +1,8 @@
 -- `number_at` has read i bytes of the number.
-use Prim.Native.Nat.{◌≤◌, ◌<◌, ◌-◌, ◌+◌, ◌^◌}
-use mathlib.Core.Path.{◌≡◌, ◌∙◌}
+use Prim.Native.Nat.{◌+◌}
+use mathlib.Core.Path.{◌∙◌}
 use native.Mathlib.Omega.{arith}
-use Rattle.reader_rules.specs.Records.{number_at}
 use Rattle.reader.proofs.Numbers.{number_none, number_more, number_below, bytes_below}
-use borrow.Author.Rules.{rules}
 use Rattle.reader.proofs.reading.number_at.Goals as goal
 
 pub loop-i-init : goal.loop-i-init
@@ -17,22 +15,14 @@ overflow_mul-n c =
 
 pub overflow_add-n : goal.overflow_add-n
 overflow_add-n c =
-    let at-loop = c in
-    let l = at-loop.loop-i in
+    let l = c.loop-i in
     omega (arith, number_below l.n l.i c.wide.result l.invariant.1 c.wide.ensures.1, bytes_below (l.i + 1) 8 (omega arith))
 
 pub loop-i-preserved : goal.loop-i-preserved
 loop-i-preserved c =
-    let at-loop = c in
-    let start = c in
-    let l = at-loop.loop-i in
-    let a = start.args in (
+    let l = c.loop-i in
+    let a = c.args in (
       number_more a.s.now a.at a.from l.i l.n c.wide.result l.invariant.0 (c.wide.ensures.0 ∙ c.byte_at.ensures),
       number_below l.n l.i c.wide.result l.invariant.1 c.wide.ensures.1,
       omega arith,
     )
-
-pub returns : goal.returns
-returns c =
-    let start = c in
-    let l = c.loop-i in let e : l.i ≡ start.args.k = omega arith in (rw e at l.invariant.0, rw e at l.invariant.1)

@@ -1,10 +1,7 @@
 -- `number_at` has read i bytes of the number.
 use Prim.Native.Nat.{◌≤◌, ◌<◌, ◌-◌, ◌+◌, ◌^◌}
-use mathlib.Core.Path.{◌≡◌, ◌∙◌}
-use native.Mathlib.Omega.{arith}
+use mathlib.Core.Path.{◌≡◌}
 use Rattle.reader_rules.specs.Records.{number_at}
-use Rattle.reader.proofs.Numbers.{number_none, number_more, number_below, bytes_below}
-use borrow.Author.Rules.{rules}
 use Rattle.reader.proofs.reading.number_at.Given as goal
 
 abbrev pub invariant-loop-i : goal.invariant-loop-i

@@ -1,20 +1,11 @@
 -- `record_at` goes by the table of its place.
-use Prim.Native.Nat.{ℕ}
 use mathlib.Core.Path.{sym, ap, ◌∙◌}
-use mathlib.Core.List.{List}
-use native.Mathlib.Omega.{arith}
-use borrow.Author.Rules.{rules}
 use Rattle.lists.proofs.Checks.{all, stop, end}
 use Rattle.reader_rules.specs.Records.{not_whole, record_at}
 use Rattle.reader_rules.specs.Answers.{found_said, said_at}
 use Rattle.reader_rules.proofs.Steps.{past_end, whole_there}
 use Rattle.reader.proofs.Places.{lines}
 use Rattle.reader.proofs.reading.record_at.Goals as goal
-use Rattle.reader.proofs.reading.record_at.Goals.{Else-s-at}
-
--- the stream, past the first test
-abbrev entered : Else-s-at → List ℕ
-entered c = c.args.s.now
 
 pub returns-then-s-at : goal.returns-then-s-at
 unfolding record_at said_at
@@ -28,13 +19,9 @@ pub returns-then-s-body : goal.returns-then-s-body
 unfolding record_at said_at
 returns-then-s-body c = ap found_said (stop not_whole _ 17 all (search lines depth 12) (search lines))
 
-pub overflow_add-result : goal.overflow_add-result
-unfolding record_at said_at
-overflow_add-result c = omega (arith, c.if-s-body.false, c.if-s-at.false)
-
 pub returns : goal.returns
 unfolding record_at said_at
-returns c = (λ c.
+returns c =
     ap found_said
-    (whole_there (entered search) _ _ c.if-s-at.false c.body_length-n.ensures
-    ∙ end not_whole _ all (search lines depth 12))) c
+    (whole_there c.args.s.now _ _ c.if-s-at.false c.body_length-n.ensures
+    ∙ end not_whole _ all (search lines depth 12))

@@ -1,9 +1,5 @@
 -- Digits read one by one: what is still to be read says the rest.
-use Prim.Native.Nat.{◌-◌}
-use native.Mathlib.Omega.{arith}
-use lib.ListN.{length}
-use Rattle.text.proofs.HexNumbers.{hex_judging, Came, begins, said, times_fits, fits, digit_more}
-use borrow.Author.Rules.{rules}
+use Rattle.text.proofs.HexNumbers.{hex_judging, said, times_fits, fits, digit_more}
 use Rattle.text.proofs.bases.hex_number.Goals as goal
 
 pub returns-then-digits-eq0 : goal.returns-then-digits-eq0
@@ -14,9 +10,6 @@ returns-then-digits-gt8 c = search hex_judging
 
 pub returns-then-not-all_hex : goal.returns-then-not-all_hex
 returns-then-not-all_hex c = search hex_judging
-
-pub loop-i-init : goal.loop-i-init
-loop-i-init c = search begins
 
 pub overflow_mul-value : goal.overflow_mul-value
 overflow_mul-value c = search times_fits

@@ -1,9 +1,7 @@
 -- Digits read one by one: what is still to be read says the rest.
 use Prim.Native.Nat.{◌-◌}
-use native.Mathlib.Omega.{arith}
 use lib.ListN.{length}
-use Rattle.text.proofs.HexNumbers.{hex_judging, Came, begins, said, times_fits, fits, digit_more}
-use borrow.Author.Rules.{rules}
+use Rattle.text.proofs.HexNumbers.{Came}
 use Rattle.text.proofs.bases.hex_number.Given as goal
 
 abbrev pub invariant-loop-i : goal.invariant-loop-i

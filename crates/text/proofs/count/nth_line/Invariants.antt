@@ -1,8 +1,6 @@
 -- The k-th line: one line after the other.
 use Prim.Native.Nat.{◌-◌, ◌≤◌}
-use native.Mathlib.Omega.{arith}
-use Rattle.text.proofs.NthLine.{LineCome, line_first, line_next, line_come}
-use borrow.Author.Rules.{rules}
+use Rattle.text.proofs.NthLine.{LineCome}
 use Rattle.text.proofs.count.nth_line.Given as goal
 
 abbrev pub invariant-loop-i : goal.invariant-loop-i

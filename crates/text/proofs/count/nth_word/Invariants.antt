@@ -1,9 +1,6 @@
 -- The k-th word: one word after the other.
 use Prim.Native.Nat.{◌-◌, ◌≤◌}
-use native.Mathlib.Omega.{arith}
-use mathlib.Core.Path.{◌≡◌}
-use Rattle.text.proofs.Nth.{Come, come_first, come_next, come_to}
-use borrow.Author.Rules.{rules}
+use Rattle.text.proofs.Nth.{Come}
 use Rattle.text.proofs.count.nth_word.Given as goal
 
 abbrev pub invariant-loop-i : goal.invariant-loop-i

@@ -1,9 +1,7 @@
 -- How many words: each takes a byte at least, so the loop ends.
 use Prim.Native.Nat.{◌-◌}
-use native.Mathlib.Omega.{arith}
 use lib.ListN.{length}
-use Rattle.text.proofs.Nth.{Counting, count_first, count_next, count_end, goes_on}
-use borrow.Author.Rules.{rules}
+use Rattle.text.proofs.Nth.{Counting}
 use Rattle.text.proofs.count.word_count.Given as goal
 
 abbrev pub invariant-loop-w : goal.invariant-loop-w

@@ -1,10 +1,5 @@
 -- Each byte is a hex digit: what is still to be seen decides.
-use Prim.Native.Nat.{◌-◌}
-use mathlib.Core.Path.{◌≡◌}
-use lib.ListN.{length, drop}
-use Rattle.text_rules.specs.Hex.{all_hex}
 use Rattle.text.proofs.HexLoops.{digits}
-use borrow.Author.Rules.{rules}
 use Rattle.text.proofs.hex.all_hex.Goals as goal
 
 pub returns-then-hex_value-gt15 : goal.returns-then-hex_value-gt15

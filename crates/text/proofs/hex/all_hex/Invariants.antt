@@ -3,8 +3,6 @@ use Prim.Native.Nat.{◌-◌}
 use mathlib.Core.Path.{◌≡◌}
 use lib.ListN.{length, drop}
 use Rattle.text_rules.specs.Hex.{all_hex}
-use Rattle.text.proofs.HexLoops.{digits}
-use borrow.Author.Rules.{rules}
 use Rattle.text.proofs.hex.all_hex.Given as goal
 
 abbrev pub invariant-loop-i : goal.invariant-loop-i

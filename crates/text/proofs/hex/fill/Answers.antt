@@ -1,22 +1,13 @@
 -- Bytes laid one by one, each from its two digits: what is still to be laid decides.
-use Prim.Native.Nat.{◌-◌, ◌*◌, ◌≤◌, ◌<◌}
+use Prim.Native.Nat.{◌<◌}
 use native.Mathlib.Omega.{arith}
-use mathlib.Core.Path.{◌≡◌, refl}
-use mathlib.Core.Bool.{true}
-use lib.ListN.{drop}
-use Rattle.text_rules.specs.Put.{laid}
-use Rattle.text_rules.specs.Hex.{pairs, all_hex}
 use Rattle.text.proofs.HexLoops.{high_small, low_small, pairs_on, pairs_more, pairs_end}
-use borrow.Author.Rules.{rules}
 use Rattle.text.proofs.hex.fill.Goals as goal
 use Rattle.text.proofs.hex.fill.Goals.{After-hex_value-low}
 
 -- both digits count less than 16
 two : (c : After-hex_value-low) → (c.hex_value-high.result < 16) × (c.hex_value-low.result < 16)
 two c = (search high_small, search low_small)
-
-pub loop-i-init : goal.loop-i-init
-loop-i-init c = (refl, c.requires.2, omega arith)
 
 pub overflow_mul-out : goal.overflow_mul-out
 overflow_mul-out c = omega (arith, two c)

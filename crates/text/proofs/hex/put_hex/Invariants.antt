@@ -1,11 +1,8 @@
 -- Bytes put one by one as two digits: what is still to be put decides.
 use Prim.Native.Nat.{◌-◌, ◌≤◌}
-use native.Mathlib.Omega.{arith}
 use lib.ListN.{length, drop}
 use Rattle.text_rules.specs.Hex.{hex_of}
-use Rattle.text_rules.proofs.Laid.{Still, still_first, put_out, put_inside}
-use Rattle.text.proofs.HexLoops.{hex_more, hex_end}
-use borrow.Author.Rules.{rules}
+use Rattle.text_rules.proofs.Laid.{Still}
 use Rattle.text.proofs.hex.put_hex.Given as goal
 
 abbrev pub invariant-loop-i : goal.invariant-loop-i

@@ -1,12 +1,9 @@
 -- Bytes put one by one in upper case: what is still to be put decides.
 use Prim.Native.Nat.{◌-◌, ◌≤◌}
-use native.Mathlib.Omega.{arith}
 use mathlib.Core.List.{map}
 use lib.ListN.{length, drop}
 use Rattle.text_rules.specs.Hex.{upper_of}
-use Rattle.text_rules.proofs.Laid.{Still, still_first, put_out, put_inside}
-use Rattle.text.proofs.HexLoops.{upper_more, upper_end}
-use borrow.Author.Rules.{rules}
+use Rattle.text_rules.proofs.Laid.{Still}
 use Rattle.text.proofs.hex.put_upper.Given as goal
 
 abbrev pub invariant-loop-i : goal.invariant-loop-i

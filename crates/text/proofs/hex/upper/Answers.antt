@@ -1,7 +1,6 @@
 -- A letter raised to upper case.
 use borrow.Author.Tests.{lt-ltb, le-ltb}
 use Rattle.text_rules.specs.Hex.{upper_of}
-use borrow.Author.Rules.{rules}
 use Rattle.text.proofs.hex.upper.Goals as goal
 
 pub returns-then-b-lt97 : goal.returns-then-b-lt97

@@ -1,12 +1,8 @@
 -- The end of a run of blanks.
 use Prim.Native.Nat.{◌-◌}
 use mathlib.Core.Path.{◌≡◌}
-use borrow.Author.Tests.{not-true, not-false}
 use lib.ListN.{length}
 use Rattle.text_rules.specs.Line.{blank, run_end}
-use Rattle.lists.proofs.Checks.{told}
-use Rattle.text.proofs.Ends.{ends}
-use borrow.Author.Rules.{rules}
 use Rattle.text.proofs.line.blanks_end.Given as goal
 
 abbrev pub invariant-loop-i : goal.invariant-loop-i

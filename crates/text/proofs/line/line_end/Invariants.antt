@@ -1,11 +1,8 @@
 -- The first newline at or after a place, by a run of bytes that are none.
 use Prim.Native.Nat.{◌-◌}
-use mathlib.Core.Path.{◌≡◌, sym, ◌∙◌}
+use mathlib.Core.Path.{◌≡◌}
 use lib.ListN.{length}
-use Rattle.text_rules.specs.Line.{in_line, run_end, line_end}
-use Rattle.text_rules.proofs.Lines.{line_stops, line_goes, line_to}
-use Rattle.text_rules.proofs.Runs.{run_more, run_stop, run_none}
-use borrow.Author.Rules.{rules}
+use Rattle.text_rules.specs.Line.{in_line, run_end}
 use Rattle.text.proofs.line.line_end.Given as goal
 
 abbrev pub invariant-loop-i : goal.invariant-loop-i

@@ -1,6 +1,5 @@
 -- The kit's comparison, as the definition's test.
 use Rattle.text_rules.proofs.Words.{one_test, same_true, same_of}
-use borrow.Author.Rules.{rules}
 use Rattle.text.proofs.line.same.Goals as goal
 
 pub returns : goal.returns

@@ -1,7 +1,6 @@
 -- The next word: past the blanks, and to the next blank.
 use Rattle.text_rules.specs.Line.{word_at}
 use Rattle.text_rules.proofs.Words.{next_word}
-use borrow.Author.Rules.{rules}
 use Rattle.text.proofs.line.word.Goals as goal
 
 pub returns : goal.returns

@@ -1,11 +1,7 @@
 -- The end of a run of bytes that are no blank.
-use Prim.Native.Nat.{◌-◌}
-use mathlib.Core.Path.{◌≡◌}
-use lib.ListN.{length}
-use Rattle.text_rules.specs.Line.{in_word, run_end}
+use Rattle.text_rules.specs.Line.{in_word}
 use Rattle.lists.proofs.Checks.{told, not_on, not_off}
 use Rattle.text.proofs.Ends.{ends}
-use borrow.Author.Rules.{rules}
 use Rattle.text.proofs.line.word_end.Goals as goal
 
 pub returns-then-is_blank : goal.returns-then-is_blank

@@ -3,9 +3,6 @@ use Prim.Native.Nat.{◌-◌}
 use mathlib.Core.Path.{◌≡◌}
 use lib.ListN.{length}
 use Rattle.text_rules.specs.Line.{in_word, run_end}
-use Rattle.lists.proofs.Checks.{told, not_on, not_off}
-use Rattle.text.proofs.Ends.{ends}
-use borrow.Author.Rules.{rules}
 use Rattle.text.proofs.line.word_end.Given as goal
 
 abbrev pub invariant-loop-i : goal.invariant-loop-i

@@ -1,11 +1,7 @@
 -- A word read digit by digit: what is still to be read decides.
-use Prim.Native.Nat.{◌<◌, ◌-◌}
 use native.Mathlib.Omega.{arith}
-use mathlib.Core.Path.{◌≡◌, sym}
-use lib.ListN.{length, drop}
-use Rattle.text_rules.specs.Number.{number_in}
-use Rattle.text.proofs.Values.{judged, number_judged, judging}
-use borrow.Author.Rules.{rules}
+use mathlib.Core.Path.{sym}
+use Rattle.text.proofs.Values.{number_judged, judging}
 use Rattle.text.proofs.numbers.number.Goals as goal
 
 pub returns-then-word-eq0 : goal.returns-then-word-eq0

@@ -1,11 +1,9 @@
 -- A word read digit by digit: what is still to be read decides.
 use Prim.Native.Nat.{◌<◌, ◌-◌}
-use native.Mathlib.Omega.{arith}
-use mathlib.Core.Path.{◌≡◌, sym}
+use mathlib.Core.Path.{◌≡◌}
 use lib.ListN.{length, drop}
 use Rattle.text_rules.specs.Number.{number_in}
-use Rattle.text.proofs.Values.{judged, number_judged, judging}
-use borrow.Author.Rules.{rules}
+use Rattle.text.proofs.Values.{judged}
 use Rattle.text.proofs.numbers.number.Given as goal
 
 abbrev pub invariant-loop-i : goal.invariant-loop-i

@@ -1,5 +1,4 @@
 -- `gather` lays what a piece has of the line behind what is held of it.
-use borrow.Author.Rules.{rules}
 use Rattle.text_rules.proofs.Pieces.{gathers}
 use Rattle.text.proofs.pieces.gather.Goals as goal
 

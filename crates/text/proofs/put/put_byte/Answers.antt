@@ -1,6 +1,5 @@
 -- One byte: it is written where it stands in the buffer.
 use Rattle.text_rules.proofs.Laid.{put_one, put_out}
-use borrow.Author.Rules.{rules}
 use Rattle.text.proofs.put.put_byte.Goals as goal
 
 pub returns-then-at-out : goal.returns-then-at-out

@@ -1,10 +1,7 @@
 -- Bytes put one after the other: the loop has put those that it has passed.
 use Prim.Native.Nat.{◌≤◌, ◌-◌}
-use native.Mathlib.Omega.{arith}
 use lib.ListN.{length, take}
 use Rattle.text_rules.specs.Put.{Put}
-use Rattle.text_rules.proofs.Laid.{put_none, put_out, put_same, front_more, front_all}
-use borrow.Author.Rules.{rules}
 use Rattle.text.proofs.put.put_bytes.Given as goal
 
 abbrev pub invariant-loop-i : goal.invariant-loop-i

@@ -1,6 +1,5 @@
 -- `integer_of` goes by the first byte.
 use Rattle.text.proofs.Integers.{signs}
-use borrow.Author.Rules.{rules}
 use Rattle.text.proofs.signed.integer_of.Goals as goal
 
 pub returns-then-word-eq0 : goal.returns-then-word-eq0

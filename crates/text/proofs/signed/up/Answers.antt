@@ -1,6 +1,5 @@
 -- `up` takes a number below 2^31.
 use Rattle.text.proofs.Integers.{upwards}
-use borrow.Author.Rules.{rules}
 use Rattle.text.proofs.signed.up.Goals as goal
 
 pub returns-then-v-lt2147483648 : goal.returns-then-v-lt2147483648
