@@ -1,0 +1,9 @@
+-- `frames::builders::all_call_head` meets its contract: each value at its field.
+use native.Mathlib.Omega.{arith}
+use Rattle.frames_rules.specs.Fields.{all_call_head}
+use borrow.Author.Rules.{rules}
+use Rattle.frames.proofs.builders.all_call_head.Goals as goal
+
+pub returns : goal.returns
+unfolding all_call_head
+returns c = omega arith

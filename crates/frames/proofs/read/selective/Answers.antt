@@ -1,0 +1,11 @@
+-- `frames::read::selective` meets its contract: each value from its field.
+use mathlib.Core.Path.{◌≡◌}
+use Prim.Native.Nat.{◌/◌}
+use native.Mathlib.Omega.{arith}
+use Rattle.frames_rules.specs.Reading.{selective_read}
+use borrow.Author.Rules.{rules}
+use Rattle.frames.proofs.read.selective.Goals as goal
+
+pub returns : goal.returns
+unfolding selective_read
+returns c = let e : c.args.head / 1 ≡ c.args.head = omega arith in rw e
