@@ -1,0 +1,16 @@
+-- `starts_of` is the starts of the entries.
+use Prim.Native.Nat.{◌≤◌, ◌-◌}
+use native.Mathlib.Omega.{arith}
+use mathlib.Core.Path.{◌≡◌, refl}
+use lib.ListN.{length}
+use Rattle.lists.proofs.Front.{length_mapped}
+use Rattle.lists.proofs.Copied.{Copied, copied_none, copied_more, copied_all}
+use Rattle.planner_rules.specs.declared.entry.Entry.{Entry}
+use borrow.Author.Rules.{rules}
+use Rattle.exports.proofs.planning.starts_of.Given as goal
+
+abbrev pub invariant-loop-i : goal.invariant-loop-i
+invariant-loop-i l = (l.i ≤ 128) × Copied (λ (e : Entry). e.start) l.entries l.initial.r l.i l.r × (length l.entries ≡ 128) × (length l.initial.r ≡ 128)
+
+abbrev pub decreases-loop-i : goal.decreases-loop-i
+decreases-loop-i l = 128 - l.i
