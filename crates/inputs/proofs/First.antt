@@ -5,7 +5,6 @@ use mathlib.Core.Path.{◌≡◌, refl, sym, ap, ◌∙◌}
 use mathlib.Core.Bool.{true, false, true≢false}
 use mathlib.Core.List.{List}
 use borrow.Author.Tests.{ltb-false}
-use lib.IntN.{ℤ}
 use lib.ListN.{length, take}
 use Rattle.inputs.specs.declared.feed.Feed.{Feed}
 use Rattle.inputs.specs.Feeds.{at_hand, at_end, Next, Fed}
@@ -53,42 +52,39 @@ module _ {piece₀ line₀ : List ℕ} {got₀ at₀ turns₀ : ℕ} {piece line
   held_next e = record { first = λ h. absurd (no_end e h) }
 
 -- behind the end of the input
-pub fed_over : {f r : Feed} {piece piece' line line' : List ℕ} {fd : ℤ} → fd ≡ f.fd → f.more ≡ false → r ≡ at_end fd 0 → Fed f piece piece' line line' r
-fed_over d m e =
+pub fed_over : {f r : Feed} {piece piece' line line' : List ℕ} → f.more ≡ false → r ≡ at_end 0 → Fed f piece piece' line line' r
+fed_over m e =
     record {
-      file = ap (λ (x : Feed). x.fd) e ∙ d;
       over = λ _. ap (λ (x : Feed). x.is_line) e;
       found = λ n _. absurd (true≢false (sym n ∙ m));
       ended = λ _. ap (λ (x : Feed). x.more) e;
     }
 
 -- no line ended at hand
-fed_end : {f r : Feed} {piece piece' line line' : List ℕ} {fd : ℤ} {n : ℕ} → fd ≡ f.fd → f.more ≡ true → r ≡ at_end fd n
+fed_end : {f r : Feed} {piece piece' line line' : List ℕ} {n : ℕ} → f.more ≡ true → r ≡ at_end n
     → (EndsIn (at_hand f piece) f.at → ⊥) → Fed f piece piece' line line' r
-fed_end d m e none =
+fed_end m e none =
     record {
-      file = ap (λ (x : Feed). x.fd) e ∙ d;
       over = λ o. absurd (true≢false (sym m ∙ o));
       found = λ _ h. absurd (none h);
       ended = λ _. ap (λ (x : Feed). x.more) e;
     }
 
-module _ {f : Feed} {fd : ℤ} {piece₀ line₀ : List ℕ} {got₀ turns₀ : ℕ} {piece line : List ℕ} {got at size turns : ℕ} (d : fd ≡ f.fd) (m : f.more ≡ true)
+module _ {f : Feed} {piece₀ line₀ : List ℕ} {got₀ turns₀ : ℕ} {piece line : List ℕ} {got at size turns : ℕ} (m : f.more ≡ true)
     (w : got₀ ≡ min f.got (length piece₀)) (held : Held piece₀ line₀ got₀ f.at turns₀ piece line got at size turns) where
   -- no turn is left, and there were some
-  pub fed_turns : {piece' line' : List ℕ} {r : Feed} {n : ℕ} → turns < turns₀ → r ≡ at_end fd n → Fed f piece₀ piece' line₀ line' r
-  fed_turns t e = fed_end d m e (λ h. omega (arith, t, (held.first (rw w h)).turns_left))
+  pub fed_turns : {piece' line' : List ℕ} {r : Feed} {n : ℕ} → turns < turns₀ → r ≡ at_end n → Fed f piece₀ piece' line₀ line' r
+  fed_turns t e = fed_end m e (λ h. omega (arith, t, (held.first (rw w h)).turns_left))
 
   module _ {after : List ℕ} {g : Gathered} (took : Gathers line after size (take got piece) at g) where
     -- the input ended
-    pub fed_input : {piece' line' : List ℕ} {r : Feed} {n : ℕ} → g.ended ≡ false → r ≡ at_end fd n → Fed f piece₀ piece' line₀ line' r
-    fed_input o e = fed_end d m e (λ h. no_end held took o (rw w h))
+    pub fed_input : {piece' line' : List ℕ} {r : Feed} {n : ℕ} → g.ended ≡ false → r ≡ at_end n → Fed f piece₀ piece' line₀ line' r
+    fed_input o e = fed_end m e (λ h. no_end held took o (rw w h))
 
     -- a line ended
-    pub fed_line : Fed f piece₀ piece line₀ after (record { fd = fd; got = got; at = g.next; size = g.size; is_line = true; more = true })
+    pub fed_line : Fed f piece₀ piece line₀ after (record { got = got; at = g.next; size = g.size; is_line = true; more = true })
     fed_line =
         record {
-          file = d;
           over = λ o. absurd (true≢false (sym m ∙ o));
           found = λ _ h.
               let x = held.first (rw w h) in

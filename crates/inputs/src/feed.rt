@@ -1,13 +1,15 @@
 // The lines of an input that comes in pieces, one for each call, in fixed memory.
-ghost use Rattle.std.specs.Prelude.{min, ◌≡◌, length};
+ghost use Rattle.std.specs.Prelude.{min, ◌≡◌, length, ◌≤◌};
 ghost use Rattle.inputs.specs.Feeds.{at_start, at_end, Fed};
 ghost use Rattle.io.specs.Counts.{IsPrefixLen};
 
-// Where the reading stands: the descriptor, the bytes of the piece and the place in it, the bytes held of the line, whether they are a whole
-// line, and whether more may come.
+use crate::files::tell;
+use std::io::Read;
+
+// Where the reading stands: the bytes of the piece and the place in it, the bytes held of the line, whether they are a whole line, and whether
+// more may come. What is read is lent to each call beside it.
 #[derive(Clone, Copy)]
 pub struct Feed {
-    pub fd: i32,
     pub got: usize,
     pub at: usize,
     pub size: usize,
@@ -16,11 +18,10 @@ pub struct Feed {
 }
 
 // Before the first line.
-pub fn start(fd: i32) -> Feed
-    ensures { result ≡ at_start fd }
+pub fn start() -> Feed
+    ensures { result ≡ at_start }
 {
     Feed {
-        fd,
         got: 0,
         at: 0,
         size: 0,
@@ -30,14 +31,16 @@ pub fn start(fd: i32) -> Feed
 }
 
 // Reads the next piece. Where that fails standard error says so, and the input is at its end.
-fn read_piece(fd: i32, piece: &mut [u8]) -> usize
+fn read_piece<R: Read>(rt: &impl Eprint, source: &mut R, piece: &mut [u8]) -> usize
     ensures { IsPrefixLen result piece.new }
 {
-    let got = libc::read(fd, piece);
-    if got < 0 {
-        os::fail(b"the input");
+    match source.read(piece) {
+        Ok(got) => got,
+        Err(error) => {
+            tell(rt, "the input", &error);
+            0
+        }
     }
-    io::count(got, piece)
 }
 
 // The bytes of a piece that a state speaks of, and no more than the piece has.
@@ -52,11 +55,10 @@ fn within(got: usize, piece: &[u8]) -> usize
 }
 
 // The input is at its end: a line begun without its newline is a line.
-fn ended(fd: i32, size: usize) -> Feed
-    ensures { result ≡ at_end fd size }
+fn ended(size: usize) -> Feed
+    ensures { result ≡ at_end size }
 {
     Feed {
-        fd,
         got: 0,
         at: 0,
         size,
@@ -67,13 +69,18 @@ fn ended(fd: i32, size: usize) -> Feed
 
 // The next line stands at the start of the buffer, as much of it as there is room for; behind the end of the input nothing is read. Nothing says
 // that an input ends, so the loop counts its turns down from a number that no run uses up.
-pub fn next_line(f: Feed, piece: &mut [u8], line: &mut [u8]) -> Feed
+pub fn next_line<R: Read>(
+    rt: &impl Eprint,
+    source: &mut R,
+    f: Feed,
+    piece: &mut [u8],
+    line: &mut [u8],
+) -> Feed
     ensures prefix_len { IsPrefixLen result.size line.new }
     ensures fed { Fed f piece.old piece.new line.old line.new result }
 {
-    let fd = f.fd;
     if !f.more {
-        return ended(fd, 0);
+        return ended(0);
     }
     let mut got = within(f.got, piece);
     let mut at = f.at;
@@ -84,7 +91,6 @@ pub fn next_line(f: Feed, piece: &mut [u8], line: &mut [u8]) -> Feed
         size = g.size;
         if g.ended {
             return Feed {
-                fd,
                 got,
                 at: g.next,
                 size,
@@ -92,12 +98,12 @@ pub fn next_line(f: Feed, piece: &mut [u8], line: &mut [u8]) -> Feed
                 more: true,
             };
         }
-        got = read_piece(fd, piece);
+        got = read_piece(rt, source, piece);
         at = 0;
         if got == 0 {
-            return ended(fd, size);
+            return ended(size);
         }
         turns -= 1;
     }
-    ended(fd, size)
+    ended(size)
 }

@@ -5,4 +5,4 @@ mod feed;
 mod files;
 
 pub use feed::{Feed, next_line, start};
-pub use files::{open, print};
+pub use files::{Source, open, print, read_full, tell};

@@ -1,0 +1,9 @@
+-- `read_full` has read no more than there is room for, and less is left with each turn.
+use Rattle.std.proofs.Common.{◌≤◌, ◌-◌, length}
+use Rattle.inputs.proofs.files.read_full.Given as goal
+
+abbrev pub invariant-loop-done : goal.invariant-loop-done
+invariant-loop-done g l = l.done ≤ length l.buf
+
+abbrev pub decreases-loop-done : goal.decreases-loop-done
+decreases-loop-done g l = length l.buf - l.done
