@@ -1,0 +1,20 @@
+-- `put_all` has laid the numbers of the marked bits before place i.
+use Prim.Native.Nat.{◌+◌, ◌*◌, ◌-◌, ◌≤◌}
+use native.Mathlib.Omega.{arith}
+use mathlib.Core.Path.{◌≡◌, refl, ◌∙◌}
+use lib.ListN.{length, drop}
+use borrow.Author.Rules.{rules}
+use Rattle.text_rules.specs.Put.{numbers_behind}
+use Rattle.text_rules.proofs.Laid.{put_inside, put_same, put_then, Still, still_first, still_next, still_end}
+use Rattle.parity_rules.specs.Messages.{bits}
+use Rattle.parity_rules.specs.Places.{places_in}
+use Rattle.places.proofs.Laying.{text_from, next_place, no_more}
+use Rattle.places.proofs.text_of.put_all.Given as goal
+
+abbrev pub invariant-loop-i : goal.invariant-loop-i
+invariant-loop-i l =
+    (l.i ≤ length l.marks * 8) × (l.n ≡ length l.marks * 8) × (l.end ≤ length l.out)
+    × Still (numbers_behind (places_in l.marks)) l.initial.end l.initial.out (text_from (l.i + 1) (drop l.i (bits l.marks))) l.end l.out
+
+abbrev pub decreases-loop-i : goal.decreases-loop-i
+decreases-loop-i l = l.n - l.i
