@@ -1,0 +1,25 @@
+-- `station::correcting::correct_as` meets its contract: what the trial says.
+use Rattle.parity_rules.proofs.Judged.{Sizes, sizes}
+use Rattle.parity_rules.specs.Answers.{buffers}
+use Rattle.station.proofs.Trials.{same_as_is, refused_as, taken_as}
+use Rattle.station.specs.Trials.{as_correction}
+use Rattle.std.proofs.Common.{◌≡◌, ℕ, List, length, take, replicate, sym, ◌∙◌, ap₂, length-take-le, take_at}
+use Rattle.station.proofs.correcting.correct_as.Goals as goal
+
+-- the part of a scratch buffer that the trial is lent is as long as each of the caller's
+lent : {n marks out places : ℕ} → Sizes n marks out places → length (take n (replicate {A = ℕ} 14 0)) ≡ n
+lent z = length-take-le _ _ z.most
+
+pub returns-then-r-ne0 : goal.returns-then-r-ne0
+returns-then-r-ne0 c = let z = sizes _ _ _ _ c.requires in
+    refused_as _ _ _ _ _ _ _ (buffers c.on_trial-r.new.out c.on_trial-r.new.places) (lent z ∙ sym z.output) (lent z ∙ sym z.places)
+    c.on_trial-r.result c.on_trial-r.ensures c.if-r-ne0.true
+
+pub returns : goal.returns
+returns c = let z = sizes _ _ _ _ c.requires in
+    let t = c.on_trial-r.new in
+    ap₂ (λ (v w : List ℕ). as_correction c.on_trial-r.result (buffers v w))
+    (c.copy.ensures ∙ take_at t.out _ _ (same_as_is t.out _ c.on_trial-r.auto.out z.most))
+    (c.copy-2.ensures ∙ take_at t.places _ _ (same_as_is t.places _ c.on_trial-r.auto.places z.most))
+    ∙ taken_as _ _ _ _ _ _ _ (buffers t.out t.places) (lent z ∙ sym z.output) (lent z ∙ sym z.places)
+    c.on_trial-r.result c.on_trial-r.ensures c.if-r-ne0.false
