@@ -8,4 +8,4 @@ use Rattle.console_plain.proofs.feet.put_ac.Goals as goal
 
 pub returns : goal.returns
 returns c =
-    ac_line _ c.put_written.ensures c.write.ensures (to_z-of_z w32 _ (record { sfits = c.integer_at.ok }) ∙ c.integer_at.ensures)
+    ac_line _ c.put_written.ensures c.write.ensures (to_z-of_z w32 _ (search rules) ∙ c.integer_at.ensures)
