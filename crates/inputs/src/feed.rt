@@ -44,7 +44,7 @@ fn read_piece<R: Read>(rt: &impl Eprint, source: &mut R, piece: &mut [u8]) -> us
 }
 
 // The bytes of a piece that a state speaks of, and no more than the piece has.
-fn within(got: usize, piece: &[u8]) -> usize
+pub(crate) fn within(got: usize, piece: &[u8]) -> usize
     ensures prefix_len { IsPrefixLen result piece.now }
     ensures value { result ≡ min got (length piece.now) }
 {

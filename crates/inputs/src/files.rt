@@ -1,9 +1,10 @@
 // The file that a program reads, by the words of its command line, and what it writes.
 ghost use Rattle.io.specs.Counts.{IsPrefixLen};
 
+use crate::feed::within;
 use std::env::FillError;
 use std::fs::File;
-use std::io::{Error, Read, Result, Stdin, Write};
+use std::io::{Cursor, Error, Read, Result, Stdin, Write};
 use std::rt::Env;
 
 // What a program reads: standard input, or the file that its one word names.
@@ -22,9 +23,24 @@ impl Read for Source {
     }
 }
 
+// The system's words for an error, without the number that std puts behind them.
+fn plain(words: &str) -> &str {
+    match words.split_once(" (os error ") {
+        Some((before, _)) => before,
+        None => words,
+    }
+}
+
 // Says on standard error what failed, and why. Where that fails too there is nobody left to tell.
 pub fn tell(rt: &impl Eprint, what: &str, error: &Error) {
-    let _ = eprintln!(rt; "{what}: {error}");
+    let mut buf = [0u8; 256];
+    let mut room = Cursor::new(&mut buf[..]);
+    let _ = write!(room, "{error}");
+    let end = room.position() as usize;
+    let size = within(end, &buf);
+    let words = str::from_utf8(&buf[..size]).unwrap_or("it failed");
+    let why = plain(words);
+    let _ = eprintln!(rt; "{what}: {why}");
 }
 
 // A source that can be read, or nothing after a line that says why not. A folder can be opened but not read, which a read of no bytes shows.

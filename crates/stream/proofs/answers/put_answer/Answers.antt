@@ -1,7 +1,6 @@
 -- `put_answer` lays three numbers.
 use Rattle.stream_rules.specs.Lines.{line, answer_line}
 use Rattle.stream.proofs.Lengths.{within_then}
-use Rattle.std.proofs.Common.{rules}
 use Rattle.stream.proofs.answers.put_answer.Goals as goal
 
 pub returns : goal.returns

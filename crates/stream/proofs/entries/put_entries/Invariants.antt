@@ -1,10 +1,7 @@
 -- `put_entries` has put the lines of the entries before place i.
-use Rattle.std.proofs.Common.{◌≡◌, ◌-◌, ◌*◌, ◌≤◌, length, take, drop, arith, rules}
-use Rattle.lists.proofs.Front.{length_mapped}
-use Rattle.text_rules.proofs.Laid.{put_inside}
+use Rattle.std.proofs.Common.{◌≡◌, ◌-◌, ◌*◌, ◌≤◌, length, take, drop}
 use Rattle.stream_rules.specs.Lines.{entry_lines}
-use Rattle.stream.proofs.Lengths.{Going, going_first, going_next, going_end, within_then}
-use Rattle.stream.proofs.PlanLines.{entries_more, entries_none}
+use Rattle.stream.proofs.Lengths.{Going}
 use Rattle.stream.proofs.entries.put_entries.Given as goal
 
 abbrev pub invariant-loop-i : goal.invariant-loop-i

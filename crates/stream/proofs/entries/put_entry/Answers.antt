@@ -1,5 +1,4 @@
 -- `put_entry` lays the numbers, and the line's end behind the last.
-use Rattle.std.proofs.Common.{rules}
 use Rattle.stream.proofs.PlanLines.{entry_ended}
 use Rattle.stream.proofs.entries.put_entry.Goals as goal
 

@@ -1,5 +1,4 @@
 -- `put_entry_head` lays the numbers, and a space behind the last as well.
-use Rattle.std.proofs.Common.{rules}
 use Rattle.stream.proofs.PlanLines.{entry_headed}
 use Rattle.stream.proofs.entries.put_entry_head.Goals as goal
 

@@ -1,6 +1,5 @@
 -- `put_words` reckons the window from the start, and lays six numbers.
 use Rattle.stream.proofs.PlanLines.{entry_put}
-use Rattle.std.proofs.Common.{rules}
 use Rattle.stream.proofs.entries.put_words.Goals as goal
 
 pub returns : goal.returns

@@ -1,5 +1,5 @@
 -- `obey_move` moves the target of the body.
-use Rattle.std.proofs.Common.{ap, ◌∙◌, rules}
+use Rattle.std.proofs.Common.{ap, ◌∙◌}
 use Rattle.reader_rules.specs.declared.fields.Edges.{Edges}
 use Rattle.station_rules.specs.Calls.{moved}
 use Rattle.stream_rules.specs.Step.{answered}

@@ -1,5 +1,5 @@
 -- `obey_plan` plans with the tag of the body, and lays the answer and the entries.
-use Rattle.std.proofs.Common.{refl, ap, ◌∙◌, arith, rules}
+use Rattle.std.proofs.Common.{refl, ap, ◌∙◌, arith}
 use Rattle.station_rules.specs.Planning.{next_plan}
 use Rattle.stream_rules.specs.Step.{planned_to}
 use Rattle.stream.proofs.Lengths.{within_then}

@@ -1,5 +1,5 @@
 -- `obey_report` reports on the address of the body, and lays the answer and, when taken, what was heard.
-use Rattle.std.proofs.Common.{refl, ap, ◌∙◌, arith, rules}
+use Rattle.std.proofs.Common.{refl, ap, ◌∙◌, arith}
 use Rattle.station_rules.specs.Calls.{reported}
 use Rattle.stream_rules.specs.Step.{reported_to}
 use Rattle.stream.proofs.Lengths.{within_then}

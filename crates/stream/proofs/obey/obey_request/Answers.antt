@@ -1,5 +1,5 @@
 -- `obey_request` takes the request of the body.
-use Rattle.std.proofs.Common.{ap, ◌∙◌, rules}
+use Rattle.std.proofs.Common.{ap, ◌∙◌}
 use Rattle.station_rules.specs.Calls.{requested}
 use Rattle.stream_rules.specs.Step.{answered}
 use Rattle.stream.proofs.Steps.{did_of}

@@ -1,5 +1,5 @@
 -- `put_answered` lays number, kind and answer.
-use Rattle.std.proofs.Common.{refl, arith, rules}
+use Rattle.std.proofs.Common.{refl, arith}
 use Rattle.stream.proofs.Steps.{did_lines}
 use Rattle.stream.proofs.obey.put_answered.Goals as goal
 

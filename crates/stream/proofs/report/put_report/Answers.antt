@@ -1,5 +1,5 @@
 -- `put_report` lays value and age of AC and of ID.
-use Rattle.std.proofs.Common.{◌≡◌, ◌++◌, append_assoc, rules}
+use Rattle.std.proofs.Common.{◌≡◌, ◌++◌, append_assoc}
 use Rattle.station_rules.specs.declared.state.Value.{Value}
 use Rattle.stream_rules.specs.Lines.{followed, line, value_word, age_word, report_line}
 use Rattle.stream.proofs.Lengths.{within_then, within_of}

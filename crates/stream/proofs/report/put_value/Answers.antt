@@ -1,7 +1,6 @@
 -- `put_value` lays value and age, or two dashes.
 use Rattle.stream_rules.specs.Lines.{value_word, age_word}
 use Rattle.stream.proofs.Lengths.{within_then}
-use Rattle.std.proofs.Common.{rules}
 use Rattle.stream.proofs.report.put_value.Goals as goal
 
 pub returns-in-Never : goal.returns-in-Never

@@ -1,6 +1,5 @@
 -- `begin` is the run before the first record.
 use Rattle.stream_rules.specs.Run.{begun}
-use Rattle.std.proofs.Common.{rules}
 use Rattle.stream.proofs.run.begin.Goals as goal
 
 pub returns : goal.returns

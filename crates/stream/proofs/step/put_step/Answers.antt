@@ -1,6 +1,5 @@
 -- `put_step` judges 16 and 17 before the body, and else obeys the record.
-use Rattle.std.proofs.Common.{◌≡◌, sym, ◌∙◌}
-use Rattle.reader_rules.specs.Records.{record_at}
+use Rattle.std.proofs.Common.{sym}
 use Rattle.reader_rules.proofs.Answers.{found_is}
 use Rattle.stream.proofs.Steps.{step_end, step_unknown, step_cut, step_whole}
 use Rattle.stream.proofs.step.put_step.Goals as goal

@@ -1,5 +1,5 @@
 -- `put_number` lays the number and the byte behind it.
-use Rattle.std.proofs.Common.{◌≤◌, length, arith, length-append, rules}
+use Rattle.std.proofs.Common.{◌≤◌, length, arith, length-append}
 use Rattle.text_rules.specs.Put.{decimal}
 use Rattle.text_rules.proofs.Decimal.{decimal_fits}
 use Rattle.text_rules.proofs.Laid.{put_then}
