@@ -7,7 +7,7 @@ use mathlib.Core.List.{List}
 use borrow.Author.Tests.{ltb-false}
 use lib.ListN.{length, take}
 use Rattle.inputs.specs.declared.feed.Feed.{Feed}
-use Rattle.inputs.specs.Feeds.{at_hand, at_end, Next, Fed}
+use Rattle.inputs.specs.Feeds.{at_hand, at_end, Fed}
 use Rattle.text_rules.specs.declared.answer.Gathered.{Gathered}
 use Rattle.text_rules.specs.Line.{line_end}
 use Rattle.text_rules.specs.Pieces.{Gathers}

@@ -75,7 +75,9 @@ fn has_two_words(rt: &HostRuntime) -> bool {
 // What a program reads: standard input, or the file that the one word of its command line names; nothing after a line that says why not.
 pub fn open(rt: &HostRuntime) -> Option<Source> {
     if has_two_words(rt) {
-        let _ = eprintln!(rt; "one word at most: the name of the file to read; without one standard input is read");
+        let _ = eprintln!(rt;
+            "one word at most: the name of the file to read; without one standard input is read"
+        );
         return None;
     }
     let mut word = [0u8; 4096];

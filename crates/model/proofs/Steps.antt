@@ -4,12 +4,10 @@ use native.Mathlib.Omega.{arith}
 use mathlib.Core.Path.{◌≡◌, refl, sym, ap, ◌∙◌}
 use mathlib.Core.Bool.{Bool, true, false}
 use mathlib.Core.List.{List, [], ◌∷◌}
-use borrow.Author.Tests.{eq-eqb, ne_eqb, le-leb, lt-leb}
 use lib.ListN.{length, get_or, replicate, get_or-eq_default}
 use Rattle.lists.proofs.Checks.{tests}
 use Rattle.frames_rules.specs.Answers.{up_said}
 use Rattle.frames_rules.specs.Building.{replying, all_call_replying}
-use Rattle.frames_rules.specs.Bytes.{number_of_bytes}
 use Rattle.frames_rules.specs.Shared.{code_for}
 use Rattle.frames_rules.specs.Formats.{length_of}
 use Rattle.frames_rules.specs.Shared.{drawn}

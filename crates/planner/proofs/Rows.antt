@@ -1,13 +1,13 @@
 -- The rows that the search reads: written one by one, and what they then show.
-use Prim.Native.Nat.{ℕ, zero, suc, ◌+◌, ◌*◌, ◌≤◌, ◌<◌}
+use Prim.Native.Nat.{ℕ, ◌+◌, ◌*◌, ◌≤◌, ◌<◌}
 use native.Mathlib.Omega.{arith}
-use mathlib.Core.Path.{◌≡◌, refl, sym, subst, ◌∙◌}
+use mathlib.Core.Path.{◌≡◌, sym, subst, ◌∙◌}
 use mathlib.Core.Logic.{⊎_elim}
-use mathlib.Core.List.{List, [], ◌∷◌}
+use mathlib.Core.List.{List}
 use lib.ListN.{length, get_or, set, length-set}
 use lib.Seq.{get_or-set_same, get_or-set_other}
 use Rattle.planner_rules.specs.declared.entry.Entry.{Entry}
-use Rattle.planner_rules.specs.Exchange.{entry_at, transmits, listens}
+use Rattle.planner_rules.specs.Exchange.{transmits, listens}
 use Rattle.planner.specs.Promises.{Told, Roomy, Shown, noted}
 use Rattle.planner_rules.proofs.Smallest.{le_or_lt}
 use Rattle.planner_rules.proofs.Clear.{sent_small}

@@ -1,6 +1,5 @@
 -- `eight_bits` gathers the eight bits of the five hundreds in three groups.
 use Rattle.altitude_rules.proofs.Reckoned.{eight_is, eight_lt}
-use borrow.Author.Rules.{rules}
 use Rattle.altitude.proofs.code.eight_bits.Goals as goal
 
 pub returns : goal.returns

@@ -1,7 +1,6 @@
 -- `eleven_bits` gathers the eleven bits besides M and Q.
 use native.Mathlib.Omega.{arith}
 use Rattle.altitude_rules.proofs.Reckoned.{eleven_is}
-use borrow.Author.Rules.{rules}
 use Rattle.altitude.proofs.code.eleven_bits.Goals as goal
 
 pub returns : goal.returns

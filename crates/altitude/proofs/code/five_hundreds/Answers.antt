@@ -1,7 +1,6 @@
 -- `five_hundreds` is the Gray value of the eight bits.
 use mathlib.Core.Path.{ap, ◌∙◌}
 use Rattle.altitude_rules.specs.Code.{five_hundreds, gray_value}
-use borrow.Author.Rules.{rules}
 use Rattle.altitude.proofs.code.five_hundreds.Goals as goal
 
 pub returns : goal.returns

@@ -1,7 +1,6 @@
 -- `hundreds_in` turns the hundreds round where n is odd.
 use Prim.Native.Nat.{◌%◌}
 use native.Mathlib.Omega.{arith}
-use borrow.Author.Rules.{rules}
 use borrow.Author.Tests.{eq-eqb, ne_eqb}
 use Rattle.altitude_rules.specs.Code.{hundreds}
 use Rattle.altitude.proofs.code.hundreds_in.Goals as goal

@@ -1,6 +1,5 @@
 -- `pattern` reads the table at C1 C2 C4, which holds the definition's patterns.
 use Rattle.altitude_rules.proofs.Reckoned.{group_is, group_le}
-use borrow.Author.Rules.{rules}
 use Rattle.altitude.proofs.code.pattern.Goals as goal
 
 pub returns : goal.returns

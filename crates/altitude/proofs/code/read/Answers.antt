@@ -3,7 +3,6 @@ use Prim.Native.Nat.{ℕ, ◌+◌, ◌*◌, ◌≤◌}
 use native.Mathlib.Omega.{arith}
 use mathlib.Core.Path.{◌≡◌, sym, ap, ◌∙◌}
 use lib.IntN.{sub_ℕ}
-use borrow.Author.Rules.{rules}
 use Rattle.lists.proofs.Signed.{minus_kept}
 use Rattle.altitude_rules.specs.Code.{M, Q, group, hundreds, five_hundreds, feet_by_25, feet_by_100}
 use Rattle.altitude_rules.specs.declared.code.Altitude.TheVariants.{Feet}

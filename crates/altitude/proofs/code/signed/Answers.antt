@@ -1,7 +1,6 @@
 -- `signed` gives the difference with its sign: both numbers are far below 2^31.
 use native.Mathlib.Omega.{arith}
 use Rattle.lists.proofs.Signed.{minus_fits, minus_is}
-use borrow.Author.Rules.{rules}
 use Rattle.altitude.proofs.code.signed.Goals as goal
 
 pub overflow_sub-result : goal.overflow_sub-result

@@ -1,7 +1,6 @@
 -- `code_by_100` splits the hundreds into five hundreds, in Gray code, and the pattern of the rest.
 use Prim.Native.Nat.{◌+◌, ◌%◌, ◌/◌}
 use native.Mathlib.Omega.{arith}
-use borrow.Author.Rules.{rules}
 use Rattle.altitude_rules.proofs.Reckoned.{turned_le, hundred_is}
 use Rattle.altitude.proofs.way_back.code_by_100.Goals as goal
 

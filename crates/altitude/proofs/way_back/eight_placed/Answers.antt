@@ -1,6 +1,5 @@
 -- `eight_placed` lays each of the eight bits at its place.
 use Rattle.altitude_rules.proofs.Reckoned.{eight_placed, eight_placed_lt}
-use borrow.Author.Rules.{rules}
 use Rattle.altitude.proofs.way_back.eight_placed.Goals as goal
 
 pub returns : goal.returns

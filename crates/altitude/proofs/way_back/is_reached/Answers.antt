@@ -1,6 +1,5 @@
 -- `is_reached` asks for a multiple, then for both ends.
 use Prim.Native.Nat.{◌%◌}
-use borrow.Author.Rules.{rules}
 use borrow.Author.Tests.{eq-eqb, ne_eqb, le-leb, lt-leb}
 use Rattle.altitude_rules.specs.WayBack.{reaches}
 use Rattle.altitude.proofs.way_back.is_reached.Goals as goal

@@ -5,7 +5,6 @@ use mathlib.Core.Path.{◌≡◌, ◌∙◌}
 use lib.IntN.{pos, negsuc}
 use mir.Syntax.{w32}
 use mir.ValLaws.{to_z-of_z}
-use borrow.Author.Rules.{rules}
 use Rattle.lists.proofs.Sizes.{negative, positive, plus_holds, less_holds, less_is, unsigned}
 use Rattle.altitude_rules.proofs.WayBack.{raised_none, raised_below, raised_above}
 use Rattle.altitude.proofs.way_back.raise.Goals as goal

@@ -4,7 +4,6 @@ use mathlib.Core.Path.{◌≡◌, sym, ap, ◌∙◌}
 use mathlib.Core.Bool.{true, false}
 use mir.Syntax.{w32}
 use mir.ValLaws.{to_z-of_z}
-use borrow.Author.Rules.{rules}
 use Rattle.altitude_rules.specs.WayBack.{raised, reaches25, reaches100}
 use Rattle.altitude_rules.proofs.WayBack.{reached, written_by_25, written_by_100, not_written}
 use Rattle.altitude.proofs.way_back.write.Goals as goal

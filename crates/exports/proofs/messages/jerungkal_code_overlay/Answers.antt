@@ -1,6 +1,5 @@
 -- `exports::jerungkal_code_overlay` meets its contract: the answer, packed.
 use mathlib.Core.Path.{ap, ◌∙◌}
-use borrow.Author.Rules.{rules}
 use Rattle.exports.specs.Packed.{packed}
 use Rattle.exports.proofs.messages.jerungkal_code_overlay.Goals as goal
 

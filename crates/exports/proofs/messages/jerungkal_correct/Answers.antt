@@ -1,7 +1,6 @@
 -- `exports::jerungkal_correct` meets its contract: the correction, its number and flips packed.
 use mathlib.Core.Path.{ap₂, ◌∙◌}
 use Prim.Native.Nat.{ℕ}
-use borrow.Author.Rules.{rules}
 use Rattle.parity_rules.specs.Answers.{Buffers, Correction}
 use Rattle.exports.proofs.messages.jerungkal_correct.Goals as goal
 

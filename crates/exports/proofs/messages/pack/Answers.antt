@@ -1,6 +1,5 @@
 -- `exports::pack` meets its contract: case by case.
 use native.Mathlib.Omega.{arith}
-use borrow.Author.Rules.{rules}
 use Rattle.exports.proofs.messages.pack.Goals as goal
 
 pub returns-in-Is : goal.returns-in-Is

@@ -1,7 +1,6 @@
 -- `exports::pack_fix` meets its contract: case by case.
 use mathlib.Core.Path.{refl}
 use native.Mathlib.Omega.{arith}
-use borrow.Author.Rules.{rules}
 use Rattle.exports.proofs.messages.pack_fix.Goals as goal
 
 pub returns-in-Flips : goal.returns-in-Flips

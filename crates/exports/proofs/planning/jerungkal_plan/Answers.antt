@@ -4,7 +4,6 @@ use lib.ListN.{replicate}
 use Rattle.planner_rules.specs.declared.entry.Entry.{Entry}
 use Rattle.planner_rules.specs.Plan.{plan, asks_of, in_slots}
 use Rattle.exports.specs.Planner.{rows_of}
-use borrow.Author.Rules.{rules}
 use Rattle.exports.proofs.planning.jerungkal_plan.Goals as goal
 
 pub returns : goal.returns

@@ -1,10 +1,8 @@
 -- `numbers_of` is the MA of the entries.
-use Prim.Native.Nat.{◌≤◌, ◌-◌}
 use native.Mathlib.Omega.{arith}
-use mathlib.Core.Path.{◌≡◌, refl}
-use lib.ListN.{length}
+use mathlib.Core.Path.{refl}
 use Rattle.lists.proofs.Front.{length_mapped}
-use Rattle.lists.proofs.Copied.{Copied, copied_none, copied_more, copied_all}
+use Rattle.lists.proofs.Copied.{copied_none, copied_more, copied_all}
 use Rattle.planner_rules.specs.declared.entry.Entry.{Entry}
 use borrow.Author.Rules.{rules}
 use Rattle.exports.proofs.planning.numbers_of.Goals as goal
@@ -14,12 +12,12 @@ loop-i-init c = (search rules, copied_none (λ (e : Entry). e.ask.request.ma) c.
 
 pub loop-i-preserved : goal.loop-i-preserved
 loop-i-preserved c = (
-      search rules,
-      copied_more (λ (e : Entry). e.ask.request.ma) c.args.entries _ c.loop-i.i c.loop-i.r _ (omega (arith, c.loop-i.invariant.2))
-          (omega (arith, c.loop-i.invariant.3)) c.loop-i.invariant.1,
-      c.loop-i.invariant.2,
-      c.loop-i.invariant.3,
-    )
+  search rules,
+  copied_more (λ (e : Entry). e.ask.request.ma) c.args.entries _ c.loop-i.i c.loop-i.r _ (omega (arith, c.loop-i.invariant.2))
+      (omega (arith, c.loop-i.invariant.3)) c.loop-i.invariant.1,
+  c.loop-i.invariant.2,
+  c.loop-i.invariant.3,
+)
 
 pub returns : goal.returns
 returns c = copied_all (λ (e : Entry). e.ask.request.ma) c.args.entries _ c.loop-i.i c.loop-i.r (omega (arith, c.loop-i.invariant.2))

@@ -1,12 +1,9 @@
 -- `numbers_of` is the MA of the entries.
 use Prim.Native.Nat.{◌≤◌, ◌-◌}
-use native.Mathlib.Omega.{arith}
-use mathlib.Core.Path.{◌≡◌, refl}
+use mathlib.Core.Path.{◌≡◌}
 use lib.ListN.{length}
-use Rattle.lists.proofs.Front.{length_mapped}
-use Rattle.lists.proofs.Copied.{Copied, copied_none, copied_more, copied_all}
+use Rattle.lists.proofs.Copied.{Copied}
 use Rattle.planner_rules.specs.declared.entry.Entry.{Entry}
-use borrow.Author.Rules.{rules}
 use Rattle.exports.proofs.planning.numbers_of.Given as goal
 
 abbrev pub invariant-loop-i : goal.invariant-loop-i

@@ -5,7 +5,6 @@ use borrow.Author.Tests.{le-ltb, lt-ltb}
 use Rattle.frames_rules.specs.Answers.{address_said}
 use Rattle.frames_rules.specs.Addresses.{address_of, address_told}
 use Rattle.frames_rules.specs.declared.answers.Address.TheVariants.{Is}
-use borrow.Author.Rules.{rules}
 use Rattle.frames.proofs.addresses.address_of.Goals as goal
 
 pub returns-then-remainder-ge16777216 : goal.returns-then-remainder-ge16777216

@@ -1,8 +1,7 @@
 -- `frames::addresses::quotient` meets its contract. The invariant: the coefficients so far, and those of what is left, spell the quotient.
 use mathlib.Core.Path.{◌≡◌, refl, ◌∙◌}
-use Prim.Native.Nat.{◌-◌, ◌^◌, ◌<◌, ◌≤◌}
+use Prim.Native.Nat.{◌-◌}
 use native.Mathlib.Omega.{arith}
-use Rattle.lists.specs.Lists.{spelled}
 use Rattle.frames_rules.specs.Addresses.{quotient_bits, quotient_of}
 use Rattle.frames_rules.proofs.Quotient.{step_lt, quotient_turn, quotient_grows, quotient_fits}
 use Rattle.frames.proofs.addresses.quotient.Goals as goal

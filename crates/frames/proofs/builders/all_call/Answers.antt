@@ -1,9 +1,8 @@
 -- `frames::builders::all_call` meets its contract: its lines one after the other, then the frame.
-use mathlib.Core.Path.{◌≡◌, sym, ap, ◌∙◌}
+use mathlib.Core.Path.{sym, ap, ◌∙◌}
 use Prim.Native.Nat.{◌≤◌}
 use native.Mathlib.Omega.{arith}
 use borrow.Author.Rules.{rules}
-use borrow.Author.Tests.{not-false}
 use Rattle.lists.proofs.Checks.{all, stop, end}
 use Rattle.frames_rules.specs.Answers.{not_built, holding}
 use Rattle.frames_rules.specs.Building.{all_calling}

@@ -1,6 +1,5 @@
 -- `frames::builders::selective_ranged` meets its contract: each range in turn.
 use mathlib.Core.Path.{sym}
-use borrow.Author.Rules.{rules}
 use Rattle.frames_rules.specs.Building.{selective_ranged}
 use Rattle.frames_rules.proofs.Lines.{ranges}
 use Rattle.frames.proofs.builders.selective_ranged.Goals as goal

@@ -1,5 +1,4 @@
 -- `frames::bytes::number_of` meets its contract: of the first seven bytes, or of all where there are no more.
-use borrow.Author.Rules.{rules}
 use Rattle.frames_rules.proofs.Numbers.{few_bytes}
 use Rattle.frames.proofs.bytes.number_of.Goals as goal
 

@@ -1,12 +1,9 @@
 -- `frames::bytes::put` meets its contract. The invariant: the bytes left, stored from here on, make what is to be.
 use mathlib.Core.Path.{◌≡◌, refl, ◌∙◌}
-use Prim.Native.Nat.{◌+◌, ◌-◌, ◌≤◌}
+use Prim.Native.Nat.{◌+◌, ◌-◌}
 use native.Mathlib.Omega.{arith}
-use lib.ListN.{length, length-set}
-use lib.Seq.{sets}
-use Rattle.frames_rules.specs.Bytes.{bytes_of}
+use lib.ListN.{length-set}
 use Rattle.frames_rules.proofs.Numbers.{put_turn}
-use borrow.Author.Rules.{rules}
 use Rattle.frames.proofs.bytes.put.Goals as goal
 
 pub loop-i-init : goal.loop-i-init

@@ -1,12 +1,9 @@
 -- `frames::bytes::put` meets its contract. The invariant: the bytes left, stored from here on, make what is to be.
-use mathlib.Core.Path.{◌≡◌, refl, ◌∙◌}
+use mathlib.Core.Path.{◌≡◌}
 use Prim.Native.Nat.{◌+◌, ◌-◌, ◌≤◌}
-use native.Mathlib.Omega.{arith}
-use lib.ListN.{length, length-set}
+use lib.ListN.{length}
 use lib.Seq.{sets}
 use Rattle.frames_rules.specs.Bytes.{bytes_of}
-use Rattle.frames_rules.proofs.Numbers.{put_turn}
-use borrow.Author.Rules.{rules}
 use Rattle.frames.proofs.bytes.put.Given as goal
 
 abbrev pub invariant-loop-i : goal.invariant-loop-i

@@ -3,10 +3,9 @@ use mathlib.Core.Path.{sym, ◌∙◌}
 use Prim.Native.Nat.{◌≤◌}
 use native.Mathlib.Omega.{arith}
 use lib.Dec.{leb}
-use borrow.Author.Tests.{leb-true, le-leb, lt-leb, eq-eqb, ne_eqb, not-true, not-false}
+use borrow.Author.Tests.{leb-true, le-leb, lt-leb, eq-eqb, ne_eqb}
 use Rattle.lists.proofs.Tests.{and_true}
 use Rattle.frames_rules.specs.Shared.{code_for, code_told}
-use borrow.Author.Rules.{rules}
 use Rattle.frames.proofs.codes.code_for.Goals as goal
 use Rattle.frames.proofs.codes.code_for.Goals.{Else-not-of_si}
 

@@ -1,9 +1,8 @@
 -- `frames::codes::whose_code` meets its contract: own, then the matching II test by test.
 use mathlib.Core.Path.{sym, ◌∙◌}
 use native.Mathlib.Nat.{zero-add}
-use borrow.Author.Tests.{eq-eqb, ne_eqb, not-true, not-false}
+use borrow.Author.Tests.{eq-eqb, ne_eqb}
 use Rattle.frames_rules.specs.Codes.{whose}
-use borrow.Author.Rules.{rules}
 use Rattle.frames.proofs.codes.whose_code.Goals as goal
 
 pub returns-then-remainder-code_overlay : goal.returns-then-remainder-code_overlay

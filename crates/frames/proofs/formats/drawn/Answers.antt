@@ -2,11 +2,10 @@
 use mathlib.Core.Path.{sym, ap, ◌∙◌}
 use Prim.Native.Nat.{ℕ, ◌+◌}
 use native.Mathlib.Omega.{arith}
-use borrow.Author.Tests.{le-leb, lt-leb, not-true, not-false}
+use borrow.Author.Tests.{le-leb, lt-leb}
 use Rattle.frames_rules.specs.Answers.{draws_said}
 use Rattle.frames_rules.specs.Shared.{drawn, drawn_told}
 use Rattle.frames_rules.specs.declared.answers.Draws.TheVariants.{Format}
-use borrow.Author.Rules.{rules}
 use Rattle.frames.proofs.formats.drawn.Goals as goal
 
 pub returns-then-not-surveillance : goal.returns-then-not-surveillance

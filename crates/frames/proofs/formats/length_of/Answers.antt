@@ -1,6 +1,5 @@
 -- `frames::formats::length_of` meets its contract, by the long formats.
 use mathlib.Core.Path.{sym, ◌∙◌}
-use borrow.Author.Rules.{rules}
 use Rattle.frames.proofs.formats.length_of.Goals as goal
 
 pub returns-then-long_format : goal.returns-then-long_format

@@ -1,6 +1,5 @@
 -- `frames::formats::listed` meets its contract: the length, then the formats.
 use borrow.Author.Tests.{eq-eqb, ne_eqb}
-use borrow.Author.Rules.{rules}
 use Rattle.frames.proofs.formats.listed.Goals as goal
 
 pub returns-then-n-length_of : goal.returns-then-n-length_of

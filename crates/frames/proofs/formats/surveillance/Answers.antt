@@ -1,6 +1,5 @@
 -- `frames::formats::surveillance` meets its contract: the two short formats, then the long ones.
 use borrow.Author.Tests.{eq-eqb, ne_eqb}
-use borrow.Author.Rules.{rules}
 use Rattle.frames.proofs.formats.surveillance.Goals as goal
 
 pub returns-then-f-eq4 : goal.returns-then-f-eq4

@@ -3,7 +3,6 @@ use native.Mathlib.Omega.{arith}
 use mathlib.Core.Path.{refl}
 use Rattle.parity_rules.proofs.Laws.{code_is}
 use Rattle.frames_rules.proofs.Told.{the_value, no_length, no_range}
-use borrow.Author.Rules.{rules}
 use Rattle.frames.proofs.frame.code_overlay.Goals as goal
 
 pub returns-in-Is : goal.returns-in-Is

@@ -7,7 +7,6 @@ use lib.ListN.{length}
 use lib.Seq.{sets, length-sets}
 use Rattle.frames_rules.specs.Bytes.{bytes_of}
 use Rattle.frames_rules.proofs.Laying.{at_least_seven, fill_short, fill_long}
-use borrow.Author.Rules.{rules}
 use Rattle.frames.proofs.frame.fill.Goals as goal
 
 pub put-requires : goal.put-requires

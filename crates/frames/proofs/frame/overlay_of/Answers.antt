@@ -2,7 +2,6 @@
 use mathlib.Core.Path.{refl}
 use Rattle.parity_rules.proofs.Laws.{uplink_is}
 use Rattle.frames_rules.proofs.Told.{the_value, no_length, no_range}
-use borrow.Author.Rules.{rules}
 use Rattle.frames.proofs.frame.overlay_of.Goals as goal
 
 pub returns-in-Is : goal.returns-in-Is

@@ -8,7 +8,6 @@ use lib.Seq.{length-sets}
 use Rattle.parity_rules.specs.Messages.{seven_or_fourteen}
 use Rattle.frames_rules.specs.Bytes.{bytes_of}
 use Rattle.frames_rules.proofs.Laying.{at_least_seven, seal_law}
-use borrow.Author.Rules.{rules}
 use Rattle.frames.proofs.frame.seal.Goals as goal
 
 pub overflow_sub-at : goal.overflow_sub-at
@@ -27,11 +26,10 @@ overflow_cast-parity c =
     omega (arith, xor_lt 32 c.remainder_of.result c.args.overlay (omega arith) (omega arith))
 
 pub put-requires-2 : goal.put-requires-2
-put-requires-2 c =
-    (
-      omega arith,
-      simp (c.put.ensures, length-sets) (omega (arith, at_least_seven (length c.args.out.now) c.requires)),
-    )
+put-requires-2 c = (
+  omega arith,
+  simp (c.put.ensures, length-sets) (omega (arith, at_least_seven (length c.args.out.now) c.requires)),
+)
 
 pub returns : goal.returns
 returns c =

@@ -2,7 +2,6 @@
 use mathlib.Core.Path.{ap, ◌∙◌}
 use Rattle.parity_rules.specs.Messages.{seven_or_fourteen}
 use Rattle.frames_rules.proofs.Laying.{filled_length, write_law}
-use borrow.Author.Rules.{rules}
 use Rattle.frames.proofs.frame.write.Goals as goal
 
 pub seal-requires : goal.seal-requires

@@ -5,7 +5,6 @@ use lib.ListN.{length, take}
 use lib.Seq.{length-take-le}
 use Rattle.frames_rules.proofs.Laying.{at_least_seven}
 use Rattle.frames_rules.specs.Fields.{head_of}
-use borrow.Author.Rules.{rules}
 use Rattle.frames.proofs.message.head_of.Goals as goal
 
 pub slice_bounds-number_in-end : goal.slice_bounds-number_in-end

@@ -1,7 +1,6 @@
 -- `frames::message::mid_of` meets its contract: zero, or the number of the seven bytes.
 use borrow.Author.Tests.{eq-eqb, ne_eqb}
 use Rattle.frames_rules.specs.Fields.{mid_of}
-use borrow.Author.Rules.{rules}
 use Rattle.frames.proofs.message.mid_of.Goals as goal
 
 pub returns-then-msg-ne14 : goal.returns-then-msg-ne14

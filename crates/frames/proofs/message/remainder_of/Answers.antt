@@ -3,7 +3,6 @@ use native.Mathlib.Omega.{arith}
 use mathlib.Core.Path.{refl}
 use Rattle.parity_rules.proofs.Laws.{remainder_is, remainder_lt}
 use Rattle.frames_rules.proofs.Told.{the_value, no_length, no_range}
-use borrow.Author.Rules.{rules}
 use Rattle.frames.proofs.message.remainder_of.Goals as goal
 
 pub returns-in-Is : goal.returns-in-Is

@@ -1,6 +1,5 @@
 -- `frames::part::mb_part` meets its contract: the length decides.
 use borrow.Author.Tests.{eq-eqb, ne_eqb}
-use borrow.Author.Rules.{rules}
 use Rattle.frames.proofs.part.mb_part.Goals as goal
 
 pub returns-then-buf-ne14 : goal.returns-then-buf-ne14

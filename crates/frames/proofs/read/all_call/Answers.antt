@@ -1,7 +1,6 @@
 -- `frames::read::all_call` meets its contract: each value from its field.
 use mathlib.Core.Path.{refl}
 use Rattle.frames_rules.specs.Reading.{all_call_read}
-use borrow.Author.Rules.{rules}
 use Rattle.frames.proofs.read.all_call.Goals as goal
 
 pub returns : goal.returns

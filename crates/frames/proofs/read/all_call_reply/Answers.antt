@@ -3,7 +3,6 @@ use mathlib.Core.Path.{◌≡◌}
 use Prim.Native.Nat.{◌/◌}
 use native.Mathlib.Omega.{arith}
 use Rattle.frames_rules.specs.Reading.{all_call_reply_read}
-use borrow.Author.Rules.{rules}
 use Rattle.frames.proofs.read.all_call_reply.Goals as goal
 
 pub returns : goal.returns

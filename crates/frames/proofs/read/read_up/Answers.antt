@@ -3,7 +3,6 @@ use mathlib.Core.Path.{◌≡◌, sym, ◌∙◌}
 use mathlib.Core.Bool.{true}
 use lib.ListN.{length}
 use borrow.Author.Rules.{rules}
-use borrow.Author.Tests.{not-false}
 use Rattle.lists.specs.Answers.{refused_by}
 use Rattle.lists.proofs.Checks.{all, stop, end}
 use Rattle.parity_rules.specs.Messages.{seven_or_fourteen}

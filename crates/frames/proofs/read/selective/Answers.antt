@@ -3,7 +3,6 @@ use mathlib.Core.Path.{◌≡◌}
 use Prim.Native.Nat.{◌/◌}
 use native.Mathlib.Omega.{arith}
 use Rattle.frames_rules.specs.Reading.{selective_read}
-use borrow.Author.Rules.{rules}
 use Rattle.frames.proofs.read.selective.Goals as goal
 
 pub returns : goal.returns

@@ -1,6 +1,5 @@
 -- `frames::replies::all_call_reply_ranged` meets its contract: each range in turn.
 use mathlib.Core.Path.{sym}
-use borrow.Author.Rules.{rules}
 use Rattle.frames_rules.specs.Building.{all_call_reply_ranged}
 use Rattle.frames_rules.proofs.Lines.{ranges}
 use Rattle.frames.proofs.replies.all_call_reply_ranged.Goals as goal

@@ -3,7 +3,6 @@ use mathlib.Core.Path.{◌≡◌, sym, ap, ◌∙◌}
 use mathlib.Core.Bool.{true}
 use native.Mathlib.Omega.{arith}
 use borrow.Author.Rules.{rules}
-use borrow.Author.Tests.{not-false}
 use Rattle.lists.proofs.Checks.{all, stop, upto, end}
 use Rattle.frames_rules.specs.Answers.{not_built, holding}
 use Rattle.frames_rules.specs.Formats.{surveillance}

@@ -1,7 +1,6 @@
 -- `frames::replies::reply_head` meets its contract: each value at its field.
 use native.Mathlib.Omega.{arith}
 use Rattle.frames_rules.specs.Fields.{reply_head}
-use borrow.Author.Rules.{rules}
 use Rattle.frames.proofs.replies.reply_head.Goals as goal
 
 pub returns : goal.returns

@@ -1,6 +1,5 @@
 -- `frames::replies::reply_ranged` meets its contract: each range in turn.
 use mathlib.Core.Path.{sym}
-use borrow.Author.Rules.{rules}
 use Rattle.frames_rules.specs.Building.{reply_ranged}
 use Rattle.frames_rules.proofs.Lines.{ranges}
 use Rattle.frames.proofs.replies.reply_ranged.Goals as goal

@@ -1,11 +1,7 @@
 -- `next_line` takes what the piece has of the line, and then piece after piece, as long as there are turns.
-use mir.Syntax.{w32}
-use mir.Val.{to_z, of_z}
 use native.Mathlib.Omega.{arith}
-use mathlib.Core.Path.{◌≡◌, refl}
-use lib.ListN.{length, take}
-use Rattle.inputs.proofs.First.{Held, held_first, held_next, fed_over, fed_input, fed_turns, fed_line}
-use Rattle.io.specs.Counts.{IsPrefixLen}
+use mathlib.Core.Path.{refl}
+use Rattle.inputs.proofs.First.{held_first, held_next, fed_over, fed_input, fed_turns, fed_line}
 use Rattle.text_rules.proofs.Pieces.{held_fits, held_count, held_same}
 use borrow.Author.Rules.{rules}
 use borrow.Author.Tests.{not-true, not-false}
@@ -32,14 +28,13 @@ returns-then-got-eq0 g c =
     }
 
 pub loop-turns-preserved : goal.loop-turns-preserved
-loop-turns-preserved g c =
-    (
-      search rules,
-      (search held_fits, search held_count),
-      search rules,
-      search held_same,
-      held_next c.loop-turns.invariant.4 c.gather-g.ensures c.if-g.false,
-    )
+loop-turns-preserved g c = (
+  search rules,
+  (search held_fits, search held_count),
+  search rules,
+  search held_same,
+  held_next c.loop-turns.invariant.4 c.gather-g.ensures c.if-g.false,
+)
 
 pub returns : goal.returns
 returns g c =

@@ -1,8 +1,6 @@
 -- `model::all_calls::answer_all_call` meets its contract: by its code and the draw.
-use borrow.Author.Tests.{not-true, not-false}
 use Rattle.frames_rules.proofs.Unique.{code_is}
 use Rattle.model.proofs.Steps.{unanswered, answered}
-use borrow.Author.Rules.{rules}
 use Rattle.model.proofs.all_calls.answer_all_call.Goals as goal
 
 pub returns-then-not-answers_code : goal.returns-then-not-answers_code

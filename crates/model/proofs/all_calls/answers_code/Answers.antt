@@ -1,5 +1,4 @@
 -- `model::all_calls::answers_code` meets its contract: by its case.
-use borrow.Author.Rules.{rules}
 use Rattle.model.proofs.all_calls.answers_code.Goals as goal
 
 pub returns-in-II : goal.returns-in-II

@@ -1,7 +1,5 @@
 -- `model::all_calls::answers_free` meets its contract: by the lock and the draw.
-use borrow.Author.Tests.{not-true, not-false}
 use mathlib.Core.Path.{sym, ◌∙◌}
-use borrow.Author.Rules.{rules}
 use Rattle.model.proofs.all_calls.answers_free.Goals as goal
 
 pub returns-then-not-free : goal.returns-then-not-free

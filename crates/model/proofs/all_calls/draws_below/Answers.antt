@@ -2,7 +2,6 @@
 use borrow.Author.Tests.{le-leb, lt-leb}
 use native.Mathlib.Omega.{arith}
 use Rattle.model_rules.specs.Replies.{draws_below}
-use borrow.Author.Rules.{rules}
 use Rattle.model.proofs.all_calls.draws_below.Goals as goal
 
 pub returns-then-p-le4 : goal.returns-then-p-le4

@@ -1,6 +1,5 @@
 -- `model::all_calls::free` meets its contract: by PR and the lock.
 use borrow.Author.Tests.{le-leb, lt-leb}
-use borrow.Author.Rules.{rules}
 use Rattle.model.proofs.all_calls.free.Goals as goal
 
 pub returns-then-pr-ge8 : goal.returns-then-pr-ge8

@@ -1,7 +1,6 @@
 -- `model::closeouts::closeout` meets its contract: by who holds.
 use Rattle.lists.proofs.Checks.{tests}
 use Rattle.model.proofs.Steps.{not_closed, closed}
-use borrow.Author.Rules.{rules}
 use borrow.Author.Tests.{not-true, not-false}
 use Rattle.model.proofs.closeouts.closeout.Goals as goal
 

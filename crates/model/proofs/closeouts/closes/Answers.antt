@@ -1,5 +1,4 @@
 -- `model::closeouts::closes` meets its contract: by who holds.
-use borrow.Author.Rules.{rules}
 use Rattle.model.proofs.closeouts.closes.Goals as goal
 
 pub returns-in-Nobody : goal.returns-in-Nobody

@@ -1,6 +1,5 @@
 -- `model::closeouts::closes_for` meets its contract: test by test.
 use borrow.Author.Tests.{eq-eqb, ne_eqb}
-use borrow.Author.Rules.{rules}
 use Rattle.model.proofs.closeouts.closes_for.Goals as goal
 
 pub returns-then-di-ne1 : goal.returns-then-di-ne1

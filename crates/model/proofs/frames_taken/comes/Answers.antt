@@ -1,7 +1,6 @@
 -- `model::frames_taken::comes` meets its contract: by what was read.
 use Rattle.model_rules.specs.Calls.{comes}
 use Rattle.model.proofs.Steps.{comes_as}
-use borrow.Author.Rules.{rules}
 use Rattle.model.proofs.frames_taken.comes.Goals as goal
 
 pub returns-in-Selective : goal.returns-in-Selective

@@ -1,5 +1,4 @@
 -- `model::lapses::holder_after` meets its contract: by its case.
-use borrow.Author.Rules.{rules}
 use Rattle.model.proofs.lapses.holder_after.Goals as goal
 
 pub returns-then-is_over : goal.returns-then-is_over

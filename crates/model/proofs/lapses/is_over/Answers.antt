@@ -3,7 +3,6 @@ use borrow.Author.Tests.{lt-leb}
 use mathlib.Core.Path.{sym}
 use native.Mathlib.Omega.{arith}
 use Prim.Native.Nat.{◌-◌}
-use borrow.Author.Rules.{rules}
 use Rattle.model.proofs.lapses.is_over.Goals as goal
 
 pub returns-then-now-since : goal.returns-then-now-since

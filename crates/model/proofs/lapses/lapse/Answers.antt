@@ -1,6 +1,5 @@
 -- `model::lapses::lapse` meets its contract: each part lapses.
 use Rattle.model.proofs.Steps.{lapse_is}
-use borrow.Author.Rules.{rules}
 use Rattle.model.proofs.lapses.lapse.Goals as goal
 
 pub returns : goal.returns

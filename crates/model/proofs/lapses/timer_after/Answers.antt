@@ -1,6 +1,5 @@
 -- `model::lapses::timer_after` meets its contract: by its case.
 use Rattle.model_rules.specs.Lapse.{timer_after}
-use borrow.Author.Rules.{rules}
 use Rattle.model.proofs.lapses.timer_after.Goals as goal
 
 pub returns-then-is_over : goal.returns-then-is_over

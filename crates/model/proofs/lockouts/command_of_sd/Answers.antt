@@ -2,7 +2,6 @@
 use borrow.Author.Tests.{eq-eqb, ne_eqb}
 use mathlib.Core.Path.{◌∙◌}
 use Rattle.model_rules.specs.Lockout.{command_of_sd}
-use borrow.Author.Rules.{rules}
 use Rattle.model.proofs.lockouts.command_of_sd.Goals as goal
 
 pub returns-then-di-eq3 : goal.returns-then-di-eq3

@@ -1,7 +1,6 @@
 -- `model::lockouts::ii_started` meets its contract: by LOS.
 use borrow.Author.Tests.{eq-eqb, ne_eqb}
 use Rattle.model_rules.specs.Lockout.{started_by_los}
-use borrow.Author.Rules.{rules}
 use Rattle.model.proofs.lockouts.ii_started.Goals as goal
 
 pub returns-then-sd-eq1 : goal.returns-then-sd-eq1

@@ -1,6 +1,5 @@
 -- `model::lockouts::lockout` meets its contract: both commands.
 use Rattle.model_rules.specs.Lockout.{lockout, commanded}
-use borrow.Author.Rules.{rules}
 use Rattle.model.proofs.lockouts.lockout.Goals as goal
 
 pub returns : goal.returns

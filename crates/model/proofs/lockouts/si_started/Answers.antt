@@ -1,7 +1,6 @@
 -- `model::lockouts::si_started` meets its contract: by LSS and SI.
 use borrow.Author.Tests.{eq-eqb, ne_eqb}
 use Rattle.model_rules.specs.Lockout.{started_by_lss}
-use borrow.Author.Rules.{rules}
 use Rattle.model.proofs.lockouts.si_started.Goals as goal
 
 pub returns-then-sd-ne1 : goal.returns-then-sd-ne1

@@ -1,7 +1,6 @@
 -- `model::making::make` meets its contract: by the ranges.
 use Prim.Native.Nat.{◌≤◌}
 use native.Mathlib.Omega.{arith}
-use borrow.Author.Rules.{rules}
 use borrow.Author.Tests.{not-false}
 use Rattle.lists.proofs.Checks.{all, stop, end, tests}
 use Rattle.model_rules.specs.Calls.{not_made, making}

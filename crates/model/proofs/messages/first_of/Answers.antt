@@ -4,7 +4,6 @@ use native.Mathlib.Omega.{arith}
 use lib.ListN.{length-take, get_or-eq_default}
 use lib.Seq.{get_or-take}
 use Rattle.model_rules.specs.State.{waiting}
-use borrow.Author.Rules.{rules}
 use Rattle.model.proofs.messages.first_of.Goals as goal
 
 pub returns-then-count-eq0 : goal.returns-then-count-eq0

@@ -1,6 +1,5 @@
 -- `model::reservations::asks_to_hold` meets its contract: test by test.
 use borrow.Author.Tests.{eq-eqb, ne_eqb}
-use borrow.Author.Rules.{rules}
 use Rattle.model.proofs.reservations.asks_to_hold.Goals as goal
 
 pub returns-then-di-ne1 : goal.returns-then-di-ne1

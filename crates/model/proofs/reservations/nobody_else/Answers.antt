@@ -1,5 +1,4 @@
 -- `model::reservations::nobody_else` meets its contract: by who holds.
-use borrow.Author.Rules.{rules}
 use Rattle.model.proofs.reservations.nobody_else.Goals as goal
 
 pub returns-in-Held : goal.returns-in-Held

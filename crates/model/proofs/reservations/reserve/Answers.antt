@@ -4,8 +4,6 @@ use mathlib.Core.Bool.{true}
 use Rattle.model_rules.specs.State.{waits}
 use Rattle.model_rules.specs.CommB.{asks_to_hold}
 use Rattle.model.proofs.Steps.{not_asked, none_waits, another_holds, reserved}
-use borrow.Author.Rules.{rules}
-use borrow.Author.Tests.{not-true, not-false}
 use Rattle.model.proofs.reservations.reserve.Goals as goal
 use Rattle.model.proofs.reservations.reserve.Goals.{Else-not-asks_to_hold, Else-not-waits}
 

@@ -1,5 +1,4 @@
 -- `model::responses::dr_of` meets its contract: by the messages.
-use borrow.Author.Rules.{rules}
 use Rattle.model.proofs.responses.dr_of.Goals as goal
 
 pub returns-then-waits : goal.returns-then-waits

@@ -1,6 +1,5 @@
 -- `model::responses::mb_of` meets its contract: by RR and BDS2.
 use borrow.Author.Tests.{eq-eqb, ne_eqb}
-use borrow.Author.Rules.{rules}
 use Rattle.model.proofs.responses.mb_of.Goals as goal
 
 pub returns-then-rr-ne16 : goal.returns-then-rr-ne16

@@ -2,7 +2,6 @@
 use mathlib.Core.Path.{sym, ◌∙◌}
 use Rattle.frames_rules.proofs.Unique.{drawn_is}
 use Rattle.model.proofs.Steps.{responded, not_drawn}
-use borrow.Author.Rules.{rules}
 use Rattle.model.proofs.responses.respond.Goals as goal
 
 pub returns-in-Format : goal.returns-in-Format

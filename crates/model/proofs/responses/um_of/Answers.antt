@@ -1,5 +1,4 @@
 -- `model::responses::um_of` meets its contract: by who holds.
-use borrow.Author.Rules.{rules}
 use Rattle.model.proofs.responses.um_of.Goals as goal
 
 pub returns-then-hides_um : goal.returns-then-hides_um

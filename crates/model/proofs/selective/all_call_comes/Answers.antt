@@ -1,7 +1,6 @@
 -- `model::selective::all_call_comes` meets its contract: by FFFFFF.
 use Rattle.lists.proofs.Checks.{tests}
 use Rattle.model.proofs.Steps.{not_for_all, for_all}
-use borrow.Author.Rules.{rules}
 use borrow.Author.Tests.{not-true, not-false}
 use Rattle.model.proofs.selective.all_call_comes.Goals as goal
 

@@ -1,6 +1,5 @@
 -- `model::selective::interrogated` meets its contract: the steps in their order.
 use Rattle.model.proofs.Steps.{interrogated_is}
-use borrow.Author.Rules.{rules}
 use Rattle.model.proofs.selective.interrogated.Goals as goal
 
 pub returns : goal.returns

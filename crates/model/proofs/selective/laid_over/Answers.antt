@@ -1,6 +1,5 @@
 -- `model::selective::laid_over` meets its contract: by the overlay that parity reckons.
 use Rattle.model.proofs.Built.{over_is, over_length, over_range}
-use borrow.Author.Rules.{rules}
 use Rattle.model.proofs.selective.laid_over.Goals as goal
 
 pub returns-in-Is : goal.returns-in-Is

@@ -1,7 +1,6 @@
 -- `model::selective::selective_comes` meets its contract: by the address.
 use Rattle.lists.proofs.Checks.{tests}
 use Rattle.model.proofs.Steps.{not_for_it, for_it}
-use borrow.Author.Rules.{rules}
 use borrow.Author.Tests.{not-true, not-false}
 use Rattle.model.proofs.selective.selective_comes.Goals as goal
 

@@ -1,7 +1,6 @@
 -- `model::sending::send` meets its contract: by the length of the format.
 use borrow.Author.Tests.{eq-eqb, ne_eqb}
 use mathlib.Core.Path.{◌∙◌}
-use borrow.Author.Rules.{rules}
 use Rattle.model.proofs.sending.send.Goals as goal
 
 pub returns-then-df-eq20 : goal.returns-then-df-eq20

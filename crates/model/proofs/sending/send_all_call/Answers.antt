@@ -1,7 +1,6 @@
 -- `model::sending::send_all_call` meets its contract: the frame that was built, or none.
 use mathlib.Core.Path.{◌∙◌}
 use Rattle.model.proofs.Built.{sent_done, sent_length, sent_range}
-use borrow.Author.Rules.{rules}
 use Rattle.model.proofs.sending.send_all_call.Goals as goal
 
 pub returns-in-Done : goal.returns-in-Done

@@ -1,7 +1,6 @@
 -- `model::sending::time_alone` meets its contract: nothing is sent.
 use mathlib.Core.Path.{ap, ◌∙◌}
 use Rattle.model_rules.specs.Calls.{went}
-use borrow.Author.Rules.{rules}
 use Rattle.model.proofs.sending.time_alone.Goals as goal
 
 pub returns : goal.returns

@@ -1,5 +1,4 @@
 -- `model::timers::place_of` meets its contract: by its case.
-use borrow.Author.Rules.{rules}
 use Rattle.model.proofs.timers.place_of.Goals as goal
 
 pub returns-in-SI : goal.returns-in-SI

@@ -1,8 +1,7 @@
 -- `put_all` has laid the numbers of the marked bits before place i.
-use Prim.Native.Nat.{◌+◌, ◌*◌, ◌-◌, ◌≤◌}
 use native.Mathlib.Omega.{arith}
-use mathlib.Core.Path.{◌≡◌, refl, ◌∙◌}
-use Rattle.text_rules.proofs.Laid.{put_inside, put_same, put_then, still_first, still_next, still_end}
+use mathlib.Core.Path.{refl}
+use Rattle.text_rules.proofs.Laid.{put_inside, put_then, still_first, still_next, still_end}
 use Rattle.places.proofs.Laying.{next_place, no_more}
 use Rattle.places.proofs.text_of.put_all.Goals as goal
 

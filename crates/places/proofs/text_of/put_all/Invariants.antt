@@ -1,14 +1,12 @@
 -- `put_all` has laid the numbers of the marked bits before place i.
 use Prim.Native.Nat.{◌+◌, ◌*◌, ◌-◌, ◌≤◌}
-use native.Mathlib.Omega.{arith}
-use mathlib.Core.Path.{◌≡◌, refl, ◌∙◌}
+use mathlib.Core.Path.{◌≡◌}
 use lib.ListN.{length, drop}
-use borrow.Author.Rules.{rules}
 use Rattle.text_rules.specs.Put.{numbers_behind}
-use Rattle.text_rules.proofs.Laid.{put_inside, put_same, put_then, Still, still_first, still_next, still_end}
+use Rattle.text_rules.proofs.Laid.{Still}
 use Rattle.parity_rules.specs.Messages.{bits}
 use Rattle.parity_rules.specs.Places.{places_in}
-use Rattle.places.proofs.Laying.{text_from, next_place, no_more}
+use Rattle.places.proofs.Laying.{text_from}
 use Rattle.places.proofs.text_of.put_all.Given as goal
 
 abbrev pub invariant-loop-i : goal.invariant-loop-i

@@ -3,7 +3,6 @@ use Prim.Native.Nat.{ℕ}
 use native.Mathlib.Omega.{arith}
 use mathlib.Core.List.{List}
 use lib.ListN.{length-take}
-use borrow.Author.Rules.{rules}
 use Rattle.text_rules.specs.Put.{numbers_behind}
 use Rattle.text_rules.proofs.Laid.{put_as}
 use Rattle.parity_rules.specs.Places.{places_in}

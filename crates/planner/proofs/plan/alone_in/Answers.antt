@@ -1,7 +1,6 @@
 -- `alone_in` is the unit's share among zeros.
 use mathlib.Core.Path.{refl}
 use Rattle.planner_rules.specs.Plan.{alone}
-use borrow.Author.Rules.{rules}
 use Rattle.planner.proofs.plan.alone_in.Goals as goal
 
 pub returns : goal.returns

@@ -1,10 +1,10 @@
 -- `make_passes` makes the nine passes one after the other.
-use Prim.Native.Nat.{◌-◌, ◌≤◌}
+use Prim.Native.Nat.{◌≤◌}
 use native.Mathlib.Omega.{arith}
 use mathlib.Core.Path.{◌≡◌, refl}
 use lib.ListN.{length}
 use Rattle.lists.proofs.Front.{length_mapped}
-use Rattle.planner.proofs.Passing.{Turning, turn_none, turn_room, turn_more, all_passed}
+use Rattle.planner.proofs.Passing.{turn_none, turn_room, turn_more, all_passed}
 use borrow.Author.Rules.{rules}
 use Rattle.planner.proofs.plan.make_passes.Goals as goal
 use Rattle.planner.proofs.plan.make_passes.Goals.{After-wide-l}
@@ -30,12 +30,11 @@ pass_over-r-requires c =
     )
 
 pub loop-u-preserved : goal.loop-u-preserved
-loop-u-preserved c =
-    (
-      search rules,
-      turn_more c.wide-l.result c.args.s.guarantee c.args.n c.args.old c.args.asks c.loop-u.u c.alone_in.result c.loop-u.r
-          c.pass_over-r.result c.loop-u.rows c.loop-u.counts _ _ c.alone_in.ensures c.loop-u.invariant.1 c.pass_over-r.ensures,
-    )
+loop-u-preserved c = (
+  search rules,
+  turn_more c.wide-l.result c.args.s.guarantee c.args.n c.args.old c.args.asks c.loop-u.u c.alone_in.result c.loop-u.r
+      c.pass_over-r.result c.loop-u.rows c.loop-u.counts _ _ c.alone_in.ensures c.loop-u.invariant.1 c.pass_over-r.ensures,
+)
 
 pub pass_over-requires : goal.pass_over-requires
 pass_over-requires c =

@@ -1,11 +1,6 @@
 -- `make_passes` makes the nine passes one after the other.
 use Prim.Native.Nat.{◌-◌, ◌≤◌}
-use native.Mathlib.Omega.{arith}
-use mathlib.Core.Path.{◌≡◌, refl}
-use lib.ListN.{length}
-use Rattle.lists.proofs.Front.{length_mapped}
-use Rattle.planner.proofs.Passing.{Turning, turn_none, turn_room, turn_more, all_passed}
-use borrow.Author.Rules.{rules}
+use Rattle.planner.proofs.Passing.{Turning}
 use Rattle.planner.proofs.plan.make_passes.Given as goal
 
 abbrev pub invariant-loop-u : goal.invariant-loop-u

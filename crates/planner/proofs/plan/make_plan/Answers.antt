@@ -1,5 +1,4 @@
 -- `make_plan` is the plan of document 01, in the caller's slots.
-use Prim.Native.Nat.{◌≤◌}
 use native.Mathlib.Omega.{arith}
 use mathlib.Core.Path.{◌≡◌, ap}
 use lib.ListN.{length, length-take}

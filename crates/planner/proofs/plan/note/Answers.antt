@@ -3,7 +3,6 @@ use native.Mathlib.Omega.{arith}
 use mathlib.Core.Path.{ap}
 use Rattle.planner.specs.declared.exchange.Exchange.{Exchange}
 use Rattle.planner.specs.Promises.{noted}
-use borrow.Author.Rules.{rules}
 use Rattle.planner.proofs.plan.note.Goals as goal
 
 pub returns : goal.returns

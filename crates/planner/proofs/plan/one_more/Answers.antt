@@ -2,7 +2,6 @@
 use native.Mathlib.Omega.{arith}
 use mathlib.Core.Path.{sym}
 use lib.Seq.{set_out}
-use borrow.Author.Rules.{rules}
 use Rattle.planner.proofs.plan.one_more.Goals as goal
 
 pub returns-then-unit-ge8 : goal.returns-then-unit-ge8

@@ -1,13 +1,7 @@
 -- `over_slots` writes one ask after the other.
 use Prim.Native.Nat.{◌-◌, ◌≤◌}
-use native.Mathlib.Omega.{arith}
-use mathlib.Core.Path.{◌≡◌, ◌∙◌}
-use mathlib.Core.List.{map-id}
-use lib.ListN.{length, take}
-use Rattle.lists.proofs.Front.{length_mapped}
-use Rattle.lists.proofs.Copied.{Copied, copied_none, copied_more, copied_front}
+use Rattle.lists.proofs.Copied.{Copied}
 use Rattle.planner_rules.specs.declared.request.Ask.{Ask}
-use borrow.Author.Rules.{rules}
 use Rattle.planner.proofs.plan.over_slots.Given as goal
 
 abbrev pub itself : Ask → Ask

@@ -1,13 +1,12 @@
 -- `pass_over` is one pass over what waits.
-use Prim.Native.Nat.{◌-◌, ◌≤◌, ◌<◌}
+use Prim.Native.Nat.{◌≤◌, ◌<◌}
 use native.Mathlib.Omega.{arith}
-use mathlib.Core.Path.{◌≡◌, sym, ◌∙◌}
+use mathlib.Core.Path.{sym, ◌∙◌}
 use lib.ListN.{length, length-set}
 use Rattle.lists.proofs.Front.{length_mapped}
 use Rattle.planner_rules.specs.declared.plan.Planned.{Planned}
-use Rattle.planner.specs.Promises.{Shown}
 use Rattle.planner.proofs.Rows.{shown_placed}
-use Rattle.planner.proofs.Passing.{Passing, pass_start, pass_small, pass_limit, pass_stay, pass_at, pass_end}
+use Rattle.planner.proofs.Passing.{pass_start, pass_small, pass_limit, pass_stay, pass_at, pass_end}
 use borrow.Author.Rules.{rules}
 use Rattle.planner.proofs.plan.pass_over.Goals as goal
 use Rattle.planner.proofs.plan.pass_over.Goals.{At-loop-i}
@@ -17,23 +16,21 @@ abbrev slots : At-loop-i → Planned
 slots l = record { placed = l.loop-i.placed; entries = l.loop-i.entries; waiting = l.loop-i.waiting; asks = l.loop-i.asks }
 
 pub loop-i-init : goal.loop-i-init
-loop-i-init c =
-    (
-      pass_start c.args.l c.args.limits c.args.b _ c.requires.3 c.requires.1 (search (rules, length_mapped)) (search (rules, length_mapped)),
-      search rules,
-      search (rules, length_mapped),
-      c.requires.2,
-    )
+loop-i-init c = (
+  pass_start c.args.l c.args.limits c.args.b _ c.requires.3 c.requires.1 (search (rules, length_mapped)) (search (rules, length_mapped)),
+  search rules,
+  search (rules, length_mapped),
+  c.requires.2,
+)
 
 pub loop-i-preserved-then-share : goal.loop-i-preserved-then-share
-loop-i-preserved-then-share c =
-    (
-      pass_limit c.args.l c.args.limits c.args.b c.loop-i.i c.loop-i.counts (slots search) c.loop-i.invariant.0 _ c.loop-i-test.true _ _
-          c.loop-i.invariant.1 c.share.ensures.0 c.share-in-loop-i.ensures.0 c.if-share.true,
-      c.loop-i.invariant.1,
-      c.loop-i.invariant.2,
-      c.loop-i.invariant.3,
-    )
+loop-i-preserved-then-share c = (
+  pass_limit c.args.l c.args.limits c.args.b c.loop-i.i c.loop-i.counts (slots search) c.loop-i.invariant.0 _ c.loop-i-test.true _ _
+      c.loop-i.invariant.1 c.share.ensures.0 c.share-in-loop-i.ensures.0 c.if-share.true,
+  c.loop-i.invariant.1,
+  c.loop-i.invariant.2,
+  c.loop-i.invariant.3,
+)
 
 pub one_more-requires : goal.one_more-requires
 one_more-requires c =
@@ -49,8 +46,7 @@ loop-i-preserved-in-At c =
     let h = c.loop-i.invariant.0 in
     let below : c.loop-i.placed < 128 = omega (arith, h.sum, h.room, c.loop-i-test.true) in
     let inside : c.loop-i.placed < length c.loop-i.entries = omega (arith, c.loop-i.invariant.2) in
-    let all : c.loop-i.placed ≤ length c.loop-i.entries = omega (arith, inside) in
-    (
+    let all : c.loop-i.placed ≤ length c.loop-i.entries = omega (arith, inside) in (
       pass_at c.args.l c.args.limits c.args.b c.loop-i.i c.loop-i.counts (slots search) h _ c.loop-i-test.true _ _ c.loop-i.invariant.1
           c.share.ensures.0 c.share-in-loop-i.ensures.0 c.if-share.false c.in-At.t c.entry_at.result
           c.one_more.new.counts c.entry_at.ensures c.one_more.ensures

@@ -1,14 +1,9 @@
 -- `pass_over` is one pass over what waits.
-use Prim.Native.Nat.{◌-◌, ◌≤◌, ◌<◌}
-use native.Mathlib.Omega.{arith}
-use mathlib.Core.Path.{◌≡◌, sym, ◌∙◌}
-use lib.ListN.{length, length-set}
-use Rattle.lists.proofs.Front.{length_mapped}
-use Rattle.planner_rules.specs.declared.plan.Planned.{Planned}
+use Prim.Native.Nat.{◌-◌}
+use mathlib.Core.Path.{◌≡◌}
+use lib.ListN.{length}
 use Rattle.planner.specs.Promises.{Shown}
-use Rattle.planner.proofs.Rows.{shown_placed}
-use Rattle.planner.proofs.Passing.{Passing, pass_start, pass_small, pass_limit, pass_stay, pass_at, pass_end}
-use borrow.Author.Rules.{rules}
+use Rattle.planner.proofs.Passing.{Passing}
 use Rattle.planner.proofs.plan.pass_over.Given as goal
 
 abbrev pub invariant-loop-i : goal.invariant-loop-i

@@ -2,7 +2,6 @@
 use native.Mathlib.Omega.{arith}
 use mathlib.Core.Path.{sym, ◌∙◌}
 use Rattle.planner.proofs.Steps.{one_aircraft, two_aircraft}
-use borrow.Author.Rules.{rules}
 use Rattle.planner.proofs.search.bump.Goals as goal
 
 pub returns-then-address-its : goal.returns-then-address-its

@@ -1,16 +1,9 @@
 -- `first_fit` answers the smallest start that fits.
-use Prim.Native.Nat.{ℕ, ◌-◌, ◌+◌, ◌*◌, ◌≤◌, ◌<◌}
 use native.Mathlib.Omega.{arith}
-use mathlib.Core.Path.{◌≡◌, refl, ap}
-use mathlib.Core.List.{List}
-use lib.ListN.{length}
-use Rattle.planner_rules.specs.declared.request.Ask.{Ask}
-use Rattle.planner_rules.specs.declared.entry.Entry.{Entry}
+use mathlib.Core.Path.{refl, ap}
 use Rattle.planner.specs.declared.exchange.Exchange.{Exchange}
-use Rattle.planner_rules.specs.Exchange.{exchange_of, entry_at}
-use Rattle.planner.specs.Promises.{held, Roomy, Shown}
-use Rattle.planner.proofs.Steps.{Rounds, round_first, round_new, round_more, found, none_left}
-use borrow.Author.Rules.{rules}
+use Rattle.planner_rules.specs.Exchange.{entry_at}
+use Rattle.planner.proofs.Steps.{round_first, round_new, round_more, found, none_left}
 use Rattle.planner.proofs.search.first_fit.Goals as goal
 
 pub returns-then-l-p : goal.returns-then-l-p
@@ -47,12 +40,12 @@ loop-t-smaller c = omega (arith, c.loop-t.invariant.1, c.loop-t.invariant.3)
 
 pub loop-t-preserved : goal.loop-t-preserved
 loop-t-preserved c = let g = c.args in (
-      λ a es x y k h. round_new g.l a g.n es c.loop-t.from c.loop-t.t c.loop-t.i c.loop-t.invariant.2 (c.loop-t.invariant.0 a es x y k h),
-      omega arith,
-      c.loop-t.invariant.2,
-      omega arith,
-      c.loop-t.invariant.4,
-    )
+  λ a es x y k h. round_new g.l a g.n es c.loop-t.from c.loop-t.t c.loop-t.i c.loop-t.invariant.2 (c.loop-t.invariant.0 a es x y k h),
+  omega arith,
+  c.loop-t.invariant.2,
+  omega arith,
+  c.loop-t.invariant.4,
+)
 
 pub returns : goal.returns
 returns c = let g = c.args in

@@ -1,16 +1,13 @@
 -- `first_fit` answers the smallest start that fits.
 use Prim.Native.Nat.{ℕ, ◌-◌, ◌+◌, ◌*◌, ◌≤◌, ◌<◌}
-use native.Mathlib.Omega.{arith}
-use mathlib.Core.Path.{◌≡◌, refl, ap}
+use mathlib.Core.Path.{◌≡◌}
 use mathlib.Core.List.{List}
 use lib.ListN.{length}
 use Rattle.planner_rules.specs.declared.request.Ask.{Ask}
 use Rattle.planner_rules.specs.declared.entry.Entry.{Entry}
-use Rattle.planner.specs.declared.exchange.Exchange.{Exchange}
-use Rattle.planner_rules.specs.Exchange.{exchange_of, entry_at}
+use Rattle.planner_rules.specs.Exchange.{exchange_of}
 use Rattle.planner.specs.Promises.{held, Roomy, Shown}
-use Rattle.planner.proofs.Steps.{Rounds, round_first, round_new, round_more, found, none_left}
-use borrow.Author.Rules.{rules}
+use Rattle.planner.proofs.Steps.{Rounds}
 use Rattle.planner.proofs.search.first_fit.Given as goal
 
 -- the rounds of any request and entries that the numbers tell of, and the bounds of the numbers themselves

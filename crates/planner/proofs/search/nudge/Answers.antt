@@ -1,7 +1,6 @@
 -- `nudge` is `bump` on a row, with two quick answers.
 use native.Mathlib.Omega.{arith}
 use Rattle.planner.proofs.Steps.{entry_over, request_over}
-use borrow.Author.Rules.{rules}
 use Rattle.planner.proofs.search.nudge.Goals as goal
 
 pub returns-then-end-t : goal.returns-then-end-t

@@ -1,5 +1,4 @@
 -- `past` goes to the first start past an overlap.
-use borrow.Author.Rules.{rules}
 use native.Mathlib.Omega.{arith}
 use mathlib.Core.Logic.{inl, inr}
 use Rattle.planner.proofs.search.past.Goals as goal

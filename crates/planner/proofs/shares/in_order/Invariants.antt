@@ -1,14 +1,10 @@
 -- `in_order` looks at the eight pairs.
-use Rattle.planner_rules.specs.Shares.{share, ordered}
-use Prim.Native.Nat.{◌≤◌, ◌-◌}
-use native.Mathlib.Omega.{arith}
-use mathlib.Core.Path.{◌≡◌, sym, ap, ◌∙◌}
-use mathlib.Core.Bool.{true}
-use borrow.Author.Tests.{le-leb, lt-leb}
-use Rattle.lists.specs.Lists.{every}
-use Rattle.lists.proofs.Every.{every_none, every_more, every_fails}
 use Rattle.planner_rules.specs.Shares.{ordered}
-use borrow.Author.Rules.{rules}
+use Prim.Native.Nat.{◌≤◌, ◌-◌}
+use mathlib.Core.Path.{◌≡◌}
+use mathlib.Core.Bool.{true}
+use Rattle.lists.specs.Lists.{every}
+use Rattle.planner_rules.specs.Shares.{ordered}
 use Rattle.planner.proofs.shares.in_order.Given as goal
 
 abbrev pub invariant-loop-u : goal.invariant-loop-u

@@ -1,9 +1,7 @@
 -- `in_range` looks at the eight shares.
 use Rattle.planner_rules.specs.Shares.{share, in_range}
-use Prim.Native.Nat.{◌≤◌, ◌-◌}
 use native.Mathlib.Omega.{arith}
 use mathlib.Core.Path.{◌≡◌, sym, ap, ◌∙◌}
-use mathlib.Core.Bool.{true}
 use borrow.Author.Tests.{le-leb, lt-leb}
 use Rattle.lists.specs.Lists.{every}
 use Rattle.lists.proofs.Every.{every_none, every_more, every_fails}

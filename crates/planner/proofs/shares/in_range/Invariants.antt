@@ -1,14 +1,10 @@
 -- `in_range` looks at the eight shares.
-use Rattle.planner_rules.specs.Shares.{share, in_range}
-use Prim.Native.Nat.{◌≤◌, ◌-◌}
-use native.Mathlib.Omega.{arith}
-use mathlib.Core.Path.{◌≡◌, sym, ap, ◌∙◌}
-use mathlib.Core.Bool.{true}
-use borrow.Author.Tests.{le-leb, lt-leb}
-use Rattle.lists.specs.Lists.{every}
-use Rattle.lists.proofs.Every.{every_none, every_more, every_fails}
 use Rattle.planner_rules.specs.Shares.{in_range}
-use borrow.Author.Rules.{rules}
+use Prim.Native.Nat.{◌≤◌, ◌-◌}
+use mathlib.Core.Path.{◌≡◌}
+use mathlib.Core.Bool.{true}
+use Rattle.lists.specs.Lists.{every}
+use Rattle.planner_rules.specs.Shares.{in_range}
 use Rattle.planner.proofs.shares.in_range.Given as goal
 
 abbrev pub invariant-loop-u : goal.invariant-loop-u

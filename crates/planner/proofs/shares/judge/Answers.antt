@@ -2,7 +2,6 @@
 use Rattle.planner_rules.specs.Shares.{setup_number}
 use Rattle.lists.specs.Checks.{Check}
 use Rattle.lists.proofs.Checks.{all, stop, end, tests}
-use borrow.Author.Rules.{rules}
 use Rattle.planner.proofs.shares.judge.Goals as goal
 
 pub returns-then-not-setup_ranged : goal.returns-then-not-setup_ranged

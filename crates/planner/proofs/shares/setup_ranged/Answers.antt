@@ -1,6 +1,5 @@
 -- `setup_ranged` asks the ranges of a setup.
 use Rattle.lists.proofs.Checks.{joined}
-use borrow.Author.Rules.{rules}
 use Rattle.planner.proofs.shares.setup_ranged.Goals as goal
 
 pub returns-then-s-gt13000 : goal.returns-then-s-gt13000

@@ -1,6 +1,5 @@
 -- `shares_good` asks the shares of a setup.
 use Rattle.lists.proofs.Checks.{joined}
-use borrow.Author.Rules.{rules}
 use Rattle.planner.proofs.shares.shares_good.Goals as goal
 
 pub returns-then-not-in_order : goal.returns-then-not-in_order

@@ -1,11 +1,8 @@
 -- `sum` adds the eight shares.
-use Prim.Native.Nat.{ℕ, ◌≤◌, ◌-◌, ◌+◌, ◌*◌}
-use native.Mathlib.Omega.{arith}
-use mathlib.Core.Path.{◌≡◌, ap, ◌∙◌}
+use Prim.Native.Nat.{◌≤◌, ◌-◌, ◌*◌}
+use mathlib.Core.Path.{◌≡◌}
 use Rattle.lists.specs.Lists.{total}
-use Rattle.lists.proofs.Total.{total_none, total_more}
 use Rattle.planner_rules.specs.Shares.{share}
-use borrow.Author.Rules.{rules}
 use Rattle.planner.proofs.shares.sum.Given as goal
 
 abbrev pub invariant-loop-u : goal.invariant-loop-u

@@ -1,7 +1,6 @@
 -- `Exchange::of` is the exchange of a request.
 use borrow.Author.Tests.{le-leb, lt-leb}
 use Rattle.planner_rules.specs.Exchange.{sent_for}
-use borrow.Author.Rules.{rules}
 use Rattle.planner.proofs.exchange.Exchange.of.Goals as goal
 
 pub returns-then-a-ge20 : goal.returns-then-a-ge20

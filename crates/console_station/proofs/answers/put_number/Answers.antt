@@ -1,0 +1,6 @@
+-- `put_number` lays the number, which has eight bits.
+use Rattle.console_station.proofs.Texts.{speaks_number}
+use Rattle.console_station.proofs.answers.put_number.Goals as goal
+
+pub returns : goal.returns
+returns c = search speaks_number
