@@ -35,6 +35,9 @@ const D4: u32 = 0;
 // The number of hundreds that each C1 C2 C4 stands for, from 1 to 5, and 0 where it is no pattern of the code.
 const PATTERNS: [u32; 8] = [0, 1, 3, 2, 5, 0, 4, 0];
 
+// AC is a number of 13 bits.
+const MOST: u32 = 8191;
+
 // A bit of AC.
 fn bit(ac: u32, place: u32) -> u32
     requires { place < 32 }
@@ -110,7 +113,7 @@ fn signed(up: u32, down: u32) -> i32
 pub fn read(ac: u32) -> Altitude
     ensures { altitude_said result ≡ altitude_told ac }
 {
-    if 8191 < ac {
+    if MOST < ac {
         return Altitude::Range;
     }
     if ac == 0 {

@@ -5,10 +5,10 @@ use mathlib.Core.List.{List, [], ◌∷◌}
 use Prim.Native.Nat.{ℕ, zero, suc, ◌+◌, ◌-◌, ◌<◌, ◌≤◌}
 use native.Mathlib.Omega.{arith}
 use lib.ListN.{length, get_or}
-use Rattle.lists.specs.Lists.{All, Among}
+use Rattle.lists.specs.Lists.{All}
 use Rattle.parity_rules.specs.Messages.{bits, AreBits}
 use Rattle.parity_rules.specs.Correction.{size_of}
-use Rattle.parity_rules.specs.Places.{places_from, places_in, Rises, Numbered}
+use Rattle.parity_rules.specs.Places.{places_from, places_in, Rises, Among, Numbered}
 use Rattle.parity_rules.proofs.Bits.{bits_are}
 
 rises_later : (i j : ℕ) (ps : List ℕ) → i ≤ j → Rises j ps → Rises i ps

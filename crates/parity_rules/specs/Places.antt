@@ -1,6 +1,6 @@
 -- Places: the bits that a mark buffer marks, by their numbers, and those that a correction tells.
-use Rattle.std.specs.Prelude.{ℕ, zero, suc, ◌-◌, ◌≤◌, ◌≡◌, ◌↔◌, List, [], ◌∷◌, eqb, length, get_or}
-use Rattle.lists.specs.Lists.{pick, Among}
+use Rattle.std.specs.Prelude.{ℕ, zero, suc, ◌-◌, ◌≤◌, ◌≡◌, ◌⊎◌, ◌↔◌, List, [], ◌∷◌, eqb, length, get_or}
+use Rattle.lists.specs.Lists.{pick}
 use Rattle.parity_rules.specs.Answers.{Correction}
 use Rattle.parity_rules.specs.Messages.{bits}
 use Rattle.parity_rules.specs.Correction.{size_of}
@@ -24,6 +24,11 @@ places_told o = pick (eqb o.number 0) (places_in o.buffers.places) []
 abbrev pub Rises : ℕ → List ℕ → Type 0
 Rises i [] = Unit {0}
 Rises i (p ∷ ps) = (i ≤ p) × Rises (suc p) ps
+
+-- one of them is k
+abbrev pub Among : ℕ → List ℕ → Type 0
+Among k [] = ⊥
+Among k (p ∷ ps) = (k ≡ p) ⊎ Among k ps
 
 -- they rise from 1 on, a number is among them exactly if its bit is marked, and they are as many as are marked
 pub record Numbered (marks ps : List ℕ) : Type 0 where

@@ -135,7 +135,8 @@ pub(crate) fn correct_as(
         &mut corrected[..n],
         &mut flipped[..n],
     );
-    if r.number != 0 {
+    let is_refused = r.number != 0;
+    if is_refused {
         return r;
     }
     copy(&corrected[..n], out);

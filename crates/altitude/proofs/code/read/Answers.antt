@@ -11,7 +11,7 @@ use Rattle.altitude.proofs.code.read.Goals as goal
 use Rattle.altitude.proofs.code.read.Goals.{Else-ac-eq0, Else-bit-eq1, Else-bit-eq1-2, Start}
 
 in-range : (c : Else-ac-eq0) → c.args.ac ≤ 8191
-in-range c = c.if-ac-gt8191.false
+in-range c = c.if-ac-gt-MOST.false
 
 not-zero : (c : Else-ac-eq0) → c.args.ac ≡ 0 → ⊥
 not-zero c = c.if-ac-eq0.false
@@ -22,11 +22,11 @@ not-metric c e = c.if-bit-eq1.false (c.bit.ensures.0 ∙ e)
 not-25 : (c : Else-bit-eq1-2) → Q c.args.ac ≡ 1 → ⊥
 not-25 c e = c.if-bit-eq1-2.false (c.bit-2.ensures.0 ∙ e)
 
-pub returns-then-ac-gt8191 : goal.returns-then-ac-gt8191
-returns-then-ac-gt8191 c = altitude_told_is _ _ (says_range _ c.if-ac-gt8191.true)
+pub returns-then-ac-gt-MOST : goal.returns-then-ac-gt-MOST
+returns-then-ac-gt-MOST c = altitude_told_is _ _ (says_range _ c.if-ac-gt-MOST.true)
 
 pub returns-then-ac-eq0 : goal.returns-then-ac-eq0
-returns-then-ac-eq0 c = altitude_told_is _ _ (says_none _ c.if-ac-gt8191.false c.if-ac-eq0.true)
+returns-then-ac-eq0 c = altitude_told_is _ _ (says_none _ c.if-ac-gt-MOST.false c.if-ac-eq0.true)
 
 pub returns-then-bit-eq1 : goal.returns-then-bit-eq1
 returns-then-bit-eq1 c = altitude_told_is _ _ (says_metric _ (in-range search) (not-zero search) (sym c.bit.ensures.0 ∙ c.if-bit-eq1.true))

@@ -10,10 +10,10 @@ use Rattle.station.proofs.correcting.correct_as.Goals as goal
 lent : {n marks out places : ℕ} → Sizes n marks out places → length (take n (replicate {A = ℕ} 14 0)) ≡ n
 lent z = length-take-le _ _ z.most
 
-pub returns-then-r-ne0 : goal.returns-then-r-ne0
-returns-then-r-ne0 c = let z = sizes _ _ _ _ c.requires in
+pub returns-then-is_refused : goal.returns-then-is_refused
+returns-then-is_refused c = let z = sizes _ _ _ _ c.requires in
     refused_as _ _ _ _ _ _ _ (buffers c.on_trial-r.new.out c.on_trial-r.new.places) (lent z ∙ sym z.output) (lent z ∙ sym z.places)
-    c.on_trial-r.result c.on_trial-r.ensures c.if-r-ne0.true
+    c.on_trial-r.result c.on_trial-r.ensures c.if-is_refused.true
 
 pub returns : goal.returns
 returns c = let z = sizes _ _ _ _ c.requires in
@@ -22,4 +22,4 @@ returns c = let z = sizes _ _ _ _ c.requires in
     (c.copy.ensures ∙ take_at t.out _ _ (same_as_is t.out _ c.on_trial-r.auto.out z.most))
     (c.copy-2.ensures ∙ take_at t.places _ _ (same_as_is t.places _ c.on_trial-r.auto.places z.most))
     ∙ taken_as _ _ _ _ _ _ _ (buffers t.out t.places) (lent z ∙ sym z.output) (lent z ∙ sym z.places)
-    c.on_trial-r.result c.on_trial-r.ensures c.if-r-ne0.false
+    c.on_trial-r.result c.on_trial-r.ensures c.if-is_refused.false
