@@ -14,16 +14,24 @@ fn show_file(rt: &HostRuntime, name: &str) {
     let _ = println!(rt; "{name} ?");
 }
 
-fn main(rt: HostRuntime) {
+// The i-th of the program's words, and whether there is one.
+fn show_argument(rt: &HostRuntime, i: usize) -> bool {
     let mut word = [0u8; 4096];
-    for i in 1..usize::MAX {
-        match rt.arg(i, &mut word) {
-            Ok(length) => {
-                if let Ok(name) = str::from_utf8(&word[..length]) {
-                    show_file(&rt, name);
-                }
+    match rt.arg(i, &mut word) {
+        Ok(length) => {
+            if let Ok(name) = str::from_utf8(&word[..length]) {
+                show_file(rt, name);
             }
-            Err(_) => return,
+            true
+        }
+        Err(_) => false,
+    }
+}
+
+fn main(rt: HostRuntime) {
+    for i in 1..usize::MAX {
+        if !show_argument(&rt, i) {
+            return;
         }
     }
 }
