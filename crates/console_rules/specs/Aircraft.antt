@@ -1,4 +1,4 @@
--- The lines `model ADDRESS Ac ID FS CA`, `queue HEX`, `send TIME DRAW HEX` and `state`: what each prints, and the aircraft that it leaves.
+-- The lines `model ADDRESS AC ID FS CA`, `queue HEX`, `send TIME DRAW HEX` and `state`: what each prints, and the aircraft that it leaves.
 use Rattle.std.specs.Prelude.{ℕ, suc, ◌-◌, ◌≤◌, ◌≡◌, true, false, List, [], ◌∷◌, ◌++◌, eqb, ltb, length, take}
 use Rattle.lists.specs.Lists.{pick}
 use Rattle.text_rules.specs.Put.{Put, decimal}

@@ -1,4 +1,4 @@
--- The lines `feet Ac` and `ac FEET`.
+-- The lines `feet AC` and `ac FEET`.
 use Rattle.std.specs.Prelude.{ℕ, List, get_or}
 use Rattle.lists.specs.Answers.{Answer}
 use Rattle.text_rules.specs.Put.{decimal}

@@ -29,7 +29,7 @@ use Rattle.station_rules.specs.Calls.{reported}
 use Rattle.station_rules.specs.Planning.{next_plan}
 use Rattle.station_rules.specs.Replies.{holds_id, expected, said_in, targets_heard, entry_numbered, request_numbered, value_in, after_reply, Replied, corrected}
 use Rattle.station_rules.specs.History.{Call, setup, new, remove, move, request, plan, reply, report, answer, after, checks_of, next}
-use Rattle.station_rules.specs.Seen.{Effect, spoke, none, effect, seen_as, events, asks_after, in_force, Kind, Ac, ID, Said, never, said, one_plan_more}
+use Rattle.station_rules.specs.Seen.{Effect, spoke, none, effect, seen_as, events, asks_after, in_force, Kind, AC, ID, Said, never, said, one_plan_more}
 use Rattle.station_rules.specs.Seen.{draws, is_from}
 use Rattle.station_rules.specs.Seen.{said_after, last_said, shown, report_of}
 use Rattle.station_rules.proofs.Lookup.{has, look, Tells, tells_none, tells_new, tells_removed, tells_put, tells_changed}
@@ -88,7 +88,7 @@ in_force_is (c ∷ cs) =
 
 -- ---- values and ages
 abbrev pub value_of : Kind → Target → Value
-value_of Ac t = t.ac
+value_of AC t = t.ac
 value_of ID t = t.id
 
 -- one plan more
@@ -100,7 +100,7 @@ aged n = go (ltb (min n 65535) 65535) refl
     go false e = omega (arith, ltb-false (min n 65535) 65535 e)
 
 older_value : (i : Kind) (t : Target) → value_of i (older t) ≡ value_after (value_of i t)
-older_value Ac t = refl
+older_value AC t = refl
 older_value ID t = refl
 
 older_shown : (x : Said) → value_after (shown x) ≡ shown (one_plan_more x)
@@ -114,8 +114,8 @@ said_value i f v t e = go i (holds_id f) e
     go : (i : Kind) (b : Bool) → draws i b ≡ true → value_of i (pick b (with_id (Heard v 0) t) (with_ac (Heard v 0) t)) ≡ shown (said v 0)
     go ID true e = refl
     go ID false e = absurd (false≢true e)
-    go Ac true e = absurd (false≢true e)
-    go Ac false e = refl
+    go AC true e = absurd (false≢true e)
+    go AC false e = refl
 
 said_other : (i : Kind) (f v : ℕ) (t : Target) → draws i (holds_id f) ≡ false → value_of i (said_in f v t) ≡ value_of i t
 said_other i f v t e = go i (holds_id f) e
@@ -123,15 +123,15 @@ said_other i f v t e = go i (holds_id f) e
     go : (i : Kind) (b : Bool) → draws i b ≡ false → value_of i (pick b (with_id (Heard v 0) t) (with_ac (Heard v 0) t)) ≡ value_of i t
     go ID true e = absurd (true≢false e)
     go ID false e = refl
-    go Ac true e = refl
-    go Ac false e = absurd (true≢false e)
+    go AC true e = refl
+    go AC false e = absurd (true≢false e)
 
 edges_value : (i : Kind) (near far : ℕ) (t : Target) → value_of i (with_edges near far t) ≡ value_of i t
-edges_value Ac near far t = refl
+edges_value AC near far t = refl
 edges_value ID near far t = refl
 
 fresh_value : (i : Kind) (a near far : ℕ) → value_of i (fresh a near far) ≡ shown never
-fresh_value Ac a near far = refl
+fresh_value AC a near far = refl
 fresh_value ID a near far = refl
 
 -- ---- the station agrees with what was said, for each target that it holds
@@ -272,7 +272,7 @@ module _ (i : Kind) (a : ℕ) where
 
 -- ---- a report that is given tells just what the history says
 both_kinds : (s : Station) (a : ℕ) (i : Kind) → report_of i (report_held s a) ≡ value_of i (target_at a s.targets)
-both_kinds s a Ac = refl
+both_kinds s a AC = refl
 both_kinds s a ID = refl
 
 pub report_is : (cs : List Call) (i : Kind) (a : ℕ) → (reported (after cs) a).number ≡ 0 → report_of i (reported (after cs) a) ≡ shown (last_said i a (events cs))

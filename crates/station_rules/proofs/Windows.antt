@@ -28,7 +28,7 @@ use Rattle.station_rules.specs.Demands.{lasts, InTime}
 use Rattle.station_rules.proofs.Keeping.{request_in}
 
 -- a reply that starts s ticks after the plan's tag has that start, wherever the counter wraps
-pub start_is : (planTag s : ℕ) → planTag < 2 ^ 32 → s < 2 ^ 32 → start_of ((planTag + s) % 2 ^ 32) planTag ≡ s
+pub start_is : (plan_tag s : ℕ) → plan_tag < 2 ^ 32 → s < 2 ^ 32 → start_of ((plan_tag + s) % 2 ^ 32) plan_tag ≡ s
 unfolding start_of
 start_is p s hp hs = go (ltb (p + s) (2 ^ 32)) refl
   where

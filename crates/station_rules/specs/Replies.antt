@@ -44,7 +44,7 @@ value_in m = value_at at_ac_or_id (head_of m)
 
 -- ---- "receiver tags are 32-bit counts that wrap. A reply's start s is tag minus plan tag on that counter"
 unfoldable pub start_of : ℕ → ℕ → ℕ
-start_of tag planTag = pick (leb planTag tag) (tag - planTag) (tag + 2 ^ 32 - planTag)
+start_of tag plan_tag = pick (leb plan_tag tag) (tag - plan_tag) (tag + 2 ^ 32 - plan_tag)
 
 -- "it is taken for t+530+near ≤ s ≤ t+532+far"
 unfoldable pub in_window : Entry → ℕ → Bool

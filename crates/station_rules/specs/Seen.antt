@@ -59,7 +59,7 @@ in_force (e ∷ h) = asks_after e (in_force h)
 
 -- ---- what an aircraft last said, and how many plans were made since
 pub data Kind : Type 0 where
-  Ac : Kind
+  AC : Kind
   ID : Kind
 
 pub data Said : Type 0 where
@@ -72,8 +72,8 @@ one_plan_more (said v n) = said v (suc n)
 
 -- whether a request draws that kind
 abbrev pub draws : Kind → Bool → Bool
-draws Ac isID = not isID
-draws ID isID = isID
+draws AC is_id = not is_id
+draws ID is_id = is_id
 
 -- the reply to an entry that asks this is from this aircraft and of this kind
 abbrev pub is_from : Kind → ℕ → Ask → Bool
@@ -97,7 +97,7 @@ shown never = Never
 shown (said v n) = Heard v (min n 65535)
 
 abbrev pub report_of : Kind → Report → Value
-report_of Ac r = r.ac
+report_of AC r = r.ac
 report_of ID r = r.id
 
 -- ---- the setup in force

@@ -83,8 +83,8 @@ unmarked = replicate 7 0
 
 -- what a reply with a tag is told: its number, and the delay
 abbrev told : ℕ → ℕ → List ℕ
-told planTag tag =
-    let r = replied (after (near_by planTag)) (received 0 tag good unmarked unmarked unmarked) in
+told plan_tag tag =
+    let r = replied (after (near_by plan_tag)) (received 0 tag good unmarked unmarked unmarked) in
     r.number ∷ signed r.delay
 
 -- the number of a reply to an entry of that plan, by its tag, message and marks; the buffers are as long as the message

@@ -31,7 +31,7 @@ use Rattle.station_rules.specs.Calls.{reported}
 use Rattle.station_rules.specs.Planning.{board_for, next_plan}
 use Rattle.station_rules.specs.Replies.{expected, start_of, delay_of, Received, entry_for, request_for, start_for, Replied, replied}
 use Rattle.station_rules.specs.History.{Call, plan, reply, report, after}
-use Rattle.station_rules.specs.Seen.{Ac, ID, Effect, events, in_force}
+use Rattle.station_rules.specs.Seen.{AC, ID, Effect, events, in_force}
 use Rattle.station_rules.proofs.Keeping.{plan_shows, always_kept}
 use Rattle.station_rules.proofs.Came.{taken}
 use Rattle.station_rules.proofs.Replies.{places_told_is}
@@ -185,7 +185,7 @@ reply_told n kind cs r bytes =
 -- ---- a report's lines
 said_line : (cs : List Call) (a : ℕ) → (reported (after cs) a).number ≡ 0
     → report_line (reported (after cs) a).ac (reported (after cs) a).id ≡ last_said_line (events_by (shown_of cs)) a
-said_line cs a z = ap₂ report_line ((ages cs).told Ac a z) ((ages cs).told ID a z) ∙ ap (λ (es : List Effect). last_said_line es a) (sym (events_read cs))
+said_line cs a z = ap₂ report_line ((ages cs).told AC a z) ((ages cs).told ID a z) ∙ ap (λ (es : List Effect). last_said_line es a) (sym (events_read cs))
 
 below_by : (cs : List Call) (a : ℕ) (b : Bool) → eqb (reported (after cs) a).number 0 ≡ b
     → pick b (report_line (reported (after cs) a).ac (reported (after cs) a).id) [] ≡ pick b (last_said_line (events_by (shown_of cs)) a) []

@@ -14,7 +14,7 @@ use Rattle.reader_rules.specs.declared.reading.Found.TheVariants.{End, Unknown, 
 use Rattle.station_rules.specs.State.{no_ask}
 use Rattle.station_rules.specs.Replies.{Received, expected, start_of}
 use Rattle.station_rules.specs.History.{Call, plan, reply, report}
-use Rattle.station_rules.specs.Seen.{Ac, ID, Effect, in_force, last_said, shown}
+use Rattle.station_rules.specs.Seen.{AC, ID, Effect, in_force, last_said, shown}
 use Rattle.stream_rules.specs.Lines.{line, answer_line, reply_line, entry_lines, report_line}
 use Rattle.stream_rules.specs.Spelled.{number_given, call_of, Prints, plain, of_plan, of_reply, of_report, prints_of, found_after, record_lines, lines_before}
 use Rattle.stream_rules.specs.Spelled.{reached, stream_of}
@@ -25,9 +25,9 @@ use Rattle.stream_rules.specs.Run.{goes_on, transcript}
 abbrev pub numbered : ℕ → ℕ → List Call → Call → List ℕ
 numbered n kind cs c = answer_line n kind (number_given cs c)
 
--- what the aircraft last said of Ac and of ID, each with the number of plans since
+-- what the aircraft last said of AC and of ID, each with the number of plans since
 abbrev pub last_said_line : List Effect → ℕ → List ℕ
-last_said_line es a = report_line (shown (last_said Ac a es)) (shown (last_said ID a es))
+last_said_line es a = report_line (shown (last_said AC a es)) (shown (last_said ID a es))
 
 -- the number on the line of a record, behind the record's own number and its kind; what a taken reply adds to the line, and the lines below
 pub record NumberPrinted (n kind number : ℕ) (text : List ℕ) : Type 0 where

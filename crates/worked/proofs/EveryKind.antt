@@ -31,7 +31,7 @@ use Rattle.station_rules.specs.Calls.{set_up, target_ranged, request_ranged, uni
 use Rattle.station_rules.specs.Planning.{asked, board_for, next_plan}
 use Rattle.station_rules.specs.Replies.{expected, value_in, start_of, in_window, targets_heard, after_reply, received, settled, replied}
 use Rattle.station_rules.specs.History.{Call, setup, new, remove, move, request, plan, reply, report}
-use Rattle.station_rules.specs.Seen.{Ac, ID, never, said, in_force, last_said}
+use Rattle.station_rules.specs.Seen.{AC, ID, never, said, in_force, last_said}
 use Rattle.stream_rules.specs.Lines.{line, answer_line, reply_line, entry_line, entry_lines, value_word, age_word, report_line}
 use Rattle.stream_rules.specs.Step.{obeyed}
 use Rattle.stream_rules.specs.Run.{obeyed_at, goes_on, text_from, transcript}
@@ -165,13 +165,13 @@ to_the_end =
     (record { call = reply (received 0 2486 (32 ∷ 0 ∷ 4 ∷ 210 ∷ 188 ∷ 41 ∷ 61 ∷ []) (replicate 7 0) (replicate 7 0) (replicate 7 0)); number = 8; entries = [] }
     ∷ done (move 1 1000 1004) (done (report 1) to_the_long_reply)))
 
--- Ac and ID of 1, then of 2, and Ac of 1 after its removal
+-- AC and ID of 1, then of 2, and AC of 1 after its removal
 reads :
-    (last_said Ac 1 (events_by to_the_long_reply)
+    (last_said AC 1 (events_by to_the_long_reply)
     ∷ last_said ID 1 (events_by to_the_long_reply)
-    ∷ last_said Ac 2 (events_by to_the_end)
+    ∷ last_said AC 2 (events_by to_the_end)
     ∷ last_said ID 2 (events_by to_the_end)
-    ∷ last_said Ac 1 (events_by to_the_end)
+    ∷ last_said AC 1 (events_by to_the_end)
     ∷ [])
     ≡ said 1234 0 ∷ never ∷ never ∷ said 4321 1 ∷ never ∷ []
 unfolding bits xor_bits shift_in divide remainder_of syndrome size_of subsets xor_of filter matching flipped head_of drawn expected value_in state.before_setup
