@@ -23,7 +23,8 @@ pub fn sized(n: usize, marks: usize, out: usize, places: usize) -> bool
     if out != n {
         return false;
     }
-    if places != n {
+    let is_other = places != n;
+    if is_other {
         return false;
     }
     seven_or_fourteen(n)

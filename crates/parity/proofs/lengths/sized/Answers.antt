@@ -9,13 +9,13 @@ returns-then-marks-n c = let a = c.args in sym (rw (ne_eqb a.marks a.n c.if-mark
 pub returns-then-out-n : goal.returns-then-out-n
 returns-then-out-n c = let a = c.args in sym (rw (eq-eqb a.marks a.n c.if-marks-n.false, ne_eqb a.out a.n c.if-out-n.true))
 
-pub returns-then-places-n : goal.returns-then-places-n
-returns-then-places-n c =
+pub returns-then-is_other : goal.returns-then-is_other
+returns-then-is_other c =
     let a = c.args in
     sym (rw (
       eq-eqb a.marks a.n c.if-marks-n.false,
       eq-eqb a.out a.n c.if-out-n.false,
-      ne_eqb a.places a.n c.if-places-n.true,
+      ne_eqb a.places a.n c.if-is_other.true,
     ))
 
 pub returns : goal.returns
@@ -25,5 +25,5 @@ returns c =
     ∙ sym (rw (
       eq-eqb a.marks a.n c.if-marks-n.false,
       eq-eqb a.out a.n c.if-out-n.false,
-      eq-eqb a.places a.n c.if-places-n.false,
+      eq-eqb a.places a.n c.if-is_other.false,
     ))
