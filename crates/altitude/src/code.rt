@@ -1,9 +1,10 @@
 // What the 13 bits of AC say of the altitude.
 ghost use Rattle.std.specs.Prelude.{◌≡◌, ◌+◌, ◌*◌, ◌≤◌, ◌<◌};
 ghost use Rattle.std.proofs.Math.IntN.{sub_ℕ};
-ghost use Rattle.altitude_rules.specs.Code.{bit_at, eleven, eight, gray_value, five_hundreds, group, hundreds, altitude_number, altitude_said, altitude_told};
+ghost use Rattle.altitude_rules.specs.Code.{bit_at, eleven, eight, gray_value, five_hundreds, group, hundreds, altitude_said, altitude_told};
 
 use altitude_rules::Altitude;
+use refusals::Refusal;
 
 // The places of AC's bits, the last being 0. Q's place is that of D1, which the 100 ft code leaves unused.
 const C1: u32 = 12;
@@ -109,39 +110,26 @@ fn signed(up: u32, down: u32) -> i32
     up as i32 - down as i32
 }
 
-// The altitude that AC says.
-pub fn read(ac: u32) -> Altitude
+// The altitude that AC says: refused where it has more than 13 bits, or a pattern that the 100 ft code does not have.
+pub fn read(ac: u32) -> Result<Altitude, Refusal>
     ensures { altitude_said result ≡ altitude_told ac }
 {
     if MOST < ac {
-        return Altitude::Range;
+        return Err(Refusal::Range);
     }
     if ac == 0 {
-        return Altitude::None;
+        return Ok(Altitude::None);
     }
     if bit(ac, M) == 1 {
-        return Altitude::Metric;
+        return Ok(Altitude::Metric);
     }
     if bit(ac, Q) == 1 {
-        return Altitude::Feet(signed(25 * eleven_bits(ac), 1000));
+        return Ok(Altitude::Feet(signed(25 * eleven_bits(ac), 1000)));
     }
     let c = pattern(ac);
     if c == 0 {
-        return Altitude::Illegal;
+        return Err(Refusal::Illegal);
     }
     let n = five_hundreds(ac);
-    Altitude::Feet(signed(500 * n + 100 * hundreds_in(n, c), 1300))
-}
-
-// The number that an answer is given.
-pub fn number(a: Altitude) -> u32
-    ensures { result ≡ altitude_number a }
-{
-    match a {
-        Altitude::Feet(_) => 0,
-        Altitude::None => 0,
-        Altitude::Metric => 0,
-        Altitude::Range => 2,
-        Altitude::Illegal => 18,
-    }
+    Ok(Altitude::Feet(signed(500 * n + 100 * hundreds_in(n, c), 1300)))
 }

@@ -4,6 +4,6 @@
 mod code;
 mod way_back;
 
-pub use altitude_rules::{Altitude, Written};
-pub use code::{number, read};
-pub use way_back::{write, written_number};
+pub use altitude_rules::Altitude;
+pub use code::read;
+pub use way_back::write;

@@ -1,9 +1,9 @@
 // The way back: the code of an altitude in feet.
 ghost use Rattle.std.specs.Prelude.{◌≡◌, ◌<◌};
-ghost use Rattle.altitude_rules.specs.WayBack.{raised, reaches, code_by_25, code_of_bits, code_by_100, written_number, written_said, way_back};
+ghost use Rattle.altitude_rules.specs.WayBack.{raised, reaches, code_by_25, code_of_bits, code_by_100, written_said, way_back};
 
 use crate::code::hundreds_in;
-use altitude_rules::Written;
+use refusals::Refusal;
 
 // How far below 0 ft the 100 ft code begins to count.
 const FLOOR: u32 = 1300;
@@ -74,26 +74,16 @@ fn code_by_100(k: u32) -> u32
     eight_placed(n ^ (n >> 1)) + three_placed(GROUPS[at])
 }
 
-// The number that an answer is given.
-pub fn written_number(w: Written) -> u32
-    ensures { result ≡ written_number w }
-{
-    match w {
-        Written::Code(_) => 0,
-        Written::NoCode => 19,
-    }
-}
-
-// The code of an altitude: the 25 ft form where it reaches, else the 100 ft code, else none. Nothing is rounded.
-pub fn write(feet: i32) -> Written
+// The code of an altitude: the 25 ft form where it reaches, else the 100 ft code, else it is refused. Nothing is rounded.
+pub fn write(feet: i32) -> Result<u32, Refusal>
     ensures { written_said result ≡ way_back feet }
 {
     let up = raise(feet);
     if is_reached(25, FLOOR - 1000, FLOOR + 50175, up) {
-        return Written::Code(code_by_25((up - (FLOOR - 1000)) / 25));
+        return Ok(code_by_25((up - (FLOOR - 1000)) / 25));
     }
     if is_reached(100, FLOOR - 1200, FLOOR + 126700, up) {
-        return Written::Code(code_by_100((up - (FLOOR - 1200)) / 100));
+        return Ok(code_by_100((up - (FLOOR - 1200)) / 100));
     }
-    Written::NoCode
+    Err(Refusal::NoCode)
 }

@@ -8,30 +8,34 @@ use lib.ListN.{replicate}
 use Rattle.lists.specs.Checks.{checked}
 use Rattle.lists.specs.Answers.{Answer, done, refusal}
 use Rattle.altitude_rules.specs.WayBack.{raised, reaches, code_by_25, code_of_bits, code_by_100, code_at, way_back}
+use Rattle.std.specs.Prelude.{Result, Ok, Err}
+use Rattle.refusals.specs.declared.refusal.Refusal.{Refusal}
+use Rattle.refusals.specs.declared.refusal.Refusal.TheVariants as refusal
+use Rattle.refusals.specs.Refusals.{number_given}
 use Rattle.altitude_rules.specs.declared.code.Altitude.{Altitude}
-use Rattle.altitude_rules.specs.declared.code.Altitude.TheVariants.{Feet, None, Metric, Range, Illegal}
-use Rattle.altitude_rules.specs.Code.{eleven, feet_by_25, gray_value, eight, five_hundreds, group, hundreds, feet_by_100, form_of, altitude, altitude_number}
+use Rattle.altitude_rules.specs.declared.code.Altitude.TheVariants.{Feet, None, Metric}
+use Rattle.altitude_rules.specs.Code.{eleven, feet_by_25, gray_value, eight, five_hundreds, group, hundreds, feet_by_100, form_of, altitude}
 
-abbrev says : List ℕ → List Altitude
+abbrev says : List ℕ → List (Result Altitude Refusal)
 says codes = map altitude codes
 
 -- no altitude; metric, with Q 0 and with Q 1; patterns that the 100 ft code does not have; 14 bits
-not_feet : says (0 ∷ 64 ∷ 80 ∷ 1 ∷ 4352 ∷ 8192 ∷ []) ≡ None ∷ Metric ∷ Metric ∷ Illegal ∷ Illegal ∷ Range ∷ []
+not_feet : says (0 ∷ 64 ∷ 80 ∷ 1 ∷ 4352 ∷ 8192 ∷ []) ≡ Ok None ∷ Ok Metric ∷ Ok Metric ∷ Err refusal.Illegal ∷ Err refusal.Illegal ∷ Err refusal.Range ∷ []
 unfolding eleven feet_by_25 gray_value eight five_hundreds group hundreds feet_by_100 form_of altitude
 not_feet = refl
 
 -- by 25 ft, from −1000 ft on
-by_25 : says (16 ∷ 5912 ∷ 8127 ∷ []) ≡ Feet (negsuc 999) ∷ Feet (pos 36000) ∷ Feet (pos 50175) ∷ []
+by_25 : says (16 ∷ 5912 ∷ 8127 ∷ []) ≡ Ok (Feet (negsuc 999)) ∷ Ok (Feet (pos 36000)) ∷ Ok (Feet (pos 50175)) ∷ []
 unfolding eleven feet_by_25 gray_value eight five_hundreds group hundreds feet_by_100 form_of altitude
 by_25 = refl
 
 -- by 100 ft: C1 C2 C4 010 and 100, an odd n, where the hundreds run back, and D2 alone
-by_100 : says (1024 ∷ 4096 ∷ 258 ∷ 260 ∷ []) ≡ Feet (negsuc 999) ∷ Feet (negsuc 799) ∷ Feet (negsuc 299) ∷ Feet (pos 126700) ∷ []
+by_100 : says (1024 ∷ 4096 ∷ 258 ∷ 260 ∷ []) ≡ Ok (Feet (negsuc 999)) ∷ Ok (Feet (negsuc 799)) ∷ Ok (Feet (negsuc 299)) ∷ Ok (Feet (pos 126700)) ∷ []
 unfolding eleven feet_by_25 gray_value eight five_hundreds group hundreds feet_by_100 form_of altitude
 by_100 = refl
 
 -- the number of each answer
-numbers : map altitude_number (Feet (pos 0) ∷ None ∷ Metric ∷ Range ∷ Illegal ∷ []) ≡ 0 ∷ 0 ∷ 0 ∷ 2 ∷ 18 ∷ []
+numbers : map number_given (Ok (Feet (pos 0)) ∷ Ok None ∷ Ok Metric ∷ Err refusal.Range ∷ Err refusal.Illegal ∷ []) ≡ 0 ∷ 0 ∷ 0 ∷ 2 ∷ 18 ∷ []
 numbers = refl
 
 -- ---- the way back: the number and the code of each altitude

@@ -5,6 +5,10 @@ use mathlib.Core.Path.{◌≡◌, refl, sym, ap, ◌∙◌}
 use mathlib.Core.Bool.{Bool, true, false, ◌&&◌, ◌||◌, or-true, false≢true}
 use mathlib.Core.List.{[], ◌∷◌}
 use lib.Dec.{eqb, leb, ltb}
+use Rattle.std.specs.Prelude.{Result, Ok, Err}
+use Rattle.refusals.specs.declared.refusal.Refusal.{Refusal}
+use Rattle.refusals.specs.declared.refusal.Refusal.TheVariants as refusal
+use Rattle.altitude_rules.specs.declared.code.Altitude.{Altitude}
 use lib.IntN.{ℤ, pos, negsuc, sub_ℕ}
 use lib.ListN.{get_or}
 use borrow.Author.Tests.{eqb-true, leb-true, eq-eqb, le-leb, lt-ltb, le-ltb, ltb-true, ltb-false}
@@ -18,7 +22,7 @@ use Rattle.altitude_rules.specs.Code.{Form, form_of, group, eleven, feet_by_25, 
 use Rattle.altitude_rules.specs.Code.Form.{all_zero, metric, by25, by100, illegal}
 use Rattle.altitude_rules.specs.WayBack.{raised, reaches, reaches25, reaches100, code_by_25, code_by_100, code_at, way_back}
 use Rattle.altitude_rules.specs.Claims.{nth, Writes, Reads, Back100, ThereAndBack}
-use Rattle.altitude_rules.specs.declared.code.Altitude.TheVariants.{Feet, None, Metric, Illegal}
+use Rattle.altitude_rules.specs.declared.code.Altitude.TheVariants.{Feet, None, Metric}
 use Rattle.altitude_rules.proofs.Forms.{form_by_is, read_by}
 use Rattle.altitude_rules.proofs.Reckoned.{eleven_lt}
 use Rattle.altitude_rules.proofs.Hundreds.{above, code_lt, hundred_form, code_above, its_code, in_reach, feet_is}
@@ -96,6 +100,10 @@ its_code_25 ac h f = eqb-true (code_by_25 (eleven ac)) ac (rw f at (all_back_25 
 
 -- ---- what is written, and what it reads as
 
+-- feet as they are read
+abbrev feet_said : ℤ → Result Altitude Refusal
+feet_said z = Ok (Feet z)
+
 -- some form reaches
 abbrev codes : ℕ → Bool
 codes up = reaches25 up || reaches100 up
@@ -142,7 +150,7 @@ module _ (up : ℕ) (h : reaches25 up ≡ true) where
         short = l;
         said =
             read_by (code_by_25 n) by25 l (code_25_form n steps.1)
-            ∙ ap Feet (same_difference (25 * eleven (code_by_25 n)) up 1000 1300 (omega (arith, code_25_eleven n steps.1, steps.0)));
+            ∙ ap feet_said (same_difference (25 * eleven (code_by_25 n)) up 1000 1300 (omega (arith, code_25_eleven n steps.1, steps.0)));
       })
 
 module _ (up : ℕ) (beyond : reaches25 up ≡ false) where
@@ -164,7 +172,7 @@ module _ (up : ℕ) (beyond : reaches25 up ≡ false) where
         short = code_lt k i;
         said =
             read_by (code_by_100 k) by100 (code_lt k i) (hundred_form k i)
-            ∙ ap Feet
+            ∙ ap feet_said
             (feet_is (code_by_100 k)
             ∙ ap (λ (n : ℕ). sub_ℕ (100 * n) 1300) (code_above k i)
             ∙ ap (λ (n : ℕ). sub_ℕ n 1300) e);
@@ -188,7 +196,7 @@ up_positive up h = go (reaches25 up) refl (reaches100 up) refl
     go false e false f = absurd (false≢true (rw (e, f) at h))
 
 reads_at : (feet : ℤ) → codes (raised feet) ≡ true → Reads (code_at (raised feet)) feet
-reads_at feet h = (fits (raised feet) h).said ∙ ap Feet (sym (raised_from feet (up_positive (raised feet) h)))
+reads_at feet h = (fits (raised feet) h).said ∙ ap feet_said (sym (raised_from feet (up_positive (raised feet) h)))
 
 -- ---- each return of the call, by the form that reaches
 
@@ -211,7 +219,7 @@ code_written : (feet : ℤ) (ac : ℕ) → codes (raised feet) ≡ true → Writ
 code_written feet ac h w = ap (λ (a : Answer). get_or a.values 0 0) (sym (wrote feet h) ∙ w)
 
 -- two altitudes said in feet are the same feet
-said_feet : (b a : ℤ) → Feet a ≡ Feet b → a ≡ b
+said_feet : (b a : ℤ) → feet_said a ≡ feet_said b → a ≡ b
 said_feet b a e = cc
 
 written_not : (feet : ℤ) (ac : ℕ) → (way_back feet).number ≡ 19 → Writes feet ac → ⊥
@@ -296,9 +304,9 @@ none_reads : (feet : ℤ) → (way_back feet).number ≡ 19 → (ac : ℕ) → a
 none_reads feet n ac h r = go (form_of ac) refl
   where
     go : (f : Form) → form_of ac ≡ f → ⊥
-    go all_zero e = let z : None ≡ Feet feet = sym (read_by ac all_zero h e) ∙ r in let y : ◌≡◌ {A = ℕ} 0 1 = cc in omega arith
-    go metric e = let z : Metric ≡ Feet feet = sym (read_by ac metric h e) ∙ r in let y : ◌≡◌ {A = ℕ} 0 1 = cc in omega arith
-    go illegal e = let z : Illegal ≡ Feet feet = sym (read_by ac illegal h e) ∙ r in let y : ◌≡◌ {A = ℕ} 0 1 = cc in omega arith
+    go all_zero e = let z : Ok None ≡ feet_said feet = sym (read_by ac all_zero h e) ∙ r in let y : ◌≡◌ {A = ℕ} 0 1 = cc in omega arith
+    go metric e = let z : Ok Metric ≡ feet_said feet = sym (read_by ac metric h e) ∙ r in let y : ◌≡◌ {A = ℕ} 0 1 = cc in omega arith
+    go illegal e = let z : Err refusal.Illegal ≡ feet_said feet = sym (read_by ac illegal h e) ∙ r in let y : ◌≡◌ {A = ℕ} 0 1 = cc in omega arith
     go by25 e = written_not feet ac n (rw (said_feet feet (feet_by_25 ac) (sym (read_by ac by25 h e) ∙ r)) at (by_25 ac h e))
     go by100 e =
         let b = by_100 ac h e in

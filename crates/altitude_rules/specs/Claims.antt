@@ -1,5 +1,5 @@
 -- What is claimed of all 8,192 codes together and of the way back; proofs/Census.antt, proofs/Hundreds.antt and proofs/WayBack.antt have the proofs.
-use Rattle.std.specs.Prelude.{ℕ, suc, ◌*◌, ◌<◌, ◌≡◌, [], ◌∷◌, false, not, eqb, ℤ}
+use Rattle.std.specs.Prelude.{ℕ, suc, ◌*◌, ◌<◌, ◌≡◌, [], ◌∷◌, false, not, eqb, ℤ, Ok}
 use Rattle.std.proofs.Math.IntN.{sub_ℕ}
 use Rattle.lists.specs.Lists.{count_below}
 use Rattle.lists.specs.Answers.{done}
@@ -52,7 +52,7 @@ Writes feet ac = way_back feet ≡ done (ac ∷ [])
 
 -- this code reads as these feet
 abbrev pub Reads : ℕ → ℤ → Type 0
-Reads ac feet = altitude ac ≡ Feet feet
+Reads ac feet = altitude ac ≡ Ok (Feet feet)
 
 -- of a code that is read by 100 ft: the way back gives its feet a code that reads as the same feet, and that very code exactly where the 25 ft form
 -- does not reach

@@ -1,11 +1,14 @@
 -- The altitude code of Annex 10: what the 13 bits of AC say. The bits are, first the most significant,
 -- C1 A1 C2 A2 C4 A4 M B1 Q B2 D2 B4 D4.
-use Rattle.std.specs.Prelude.{ℕ, zero, suc, ◌+◌, ◌-◌, ◌*◌, ◌/◌, ◌%◌, ◌^◌, List, [], ◌∷◌, Bool, true, false, eqb, ltb, ℤ}
+use Rattle.std.specs.Prelude.{ℕ, zero, suc, ◌+◌, ◌-◌, ◌*◌, ◌/◌, ◌%◌, ◌^◌, List, [], ◌∷◌, Bool, true, false, eqb, ltb, ℤ, Result, Ok, Err}
 use Rattle.std.proofs.Math.IntN.{sub_ℕ}
 use Rattle.lists.specs.Lists.{pick, spelled}
 use Rattle.lists.specs.Checks.{Check, check}
+use Rattle.refusals.specs.declared.refusal.Refusal.{Refusal}
+use Rattle.refusals.specs.declared.refusal.Refusal.TheVariants as refusal
+use Rattle.refusals.specs.Refusals.{number_given}
 use Rattle.altitude_rules.specs.declared.code.Altitude.{Altitude}
-use Rattle.altitude_rules.specs.declared.code.Altitude.TheVariants.{Feet, None, Metric, Range, Illegal}
+use Rattle.altitude_rules.specs.declared.code.Altitude.TheVariants.{Feet, None, Metric}
 
 -- ---- the bits
 
@@ -119,24 +122,16 @@ form_of ac =
     (pick (eqb (group ac) 0) illegal
     by100)))
 
-abbrev pub read_as : Form → ℕ → Altitude
-read_as all_zero ac = None
-read_as metric ac = Metric
-read_as by25 ac = Feet (feet_by_25 ac)
-read_as by100 ac = Feet (feet_by_100 ac)
-read_as illegal ac = Illegal
+abbrev pub read_as : Form → ℕ → Result Altitude Refusal
+read_as all_zero ac = Ok None
+read_as metric ac = Ok Metric
+read_as by25 ac = Ok (Feet (feet_by_25 ac))
+read_as by100 ac = Ok (Feet (feet_by_100 ac))
+read_as illegal ac = Err refusal.Illegal
 
 -- the answer for any number: one above 8191 is no AC
-unfoldable pub altitude : ℕ → Altitude
-altitude ac = pick (ltb 8191 ac) Range (read_as (form_of ac) ac)
-
--- the number that document 01 and request 1 give each answer
-abbrev pub altitude_number : Altitude → ℕ
-altitude_number (Feet z) = 0
-altitude_number None = 0
-altitude_number Metric = 0
-altitude_number Range = 2
-altitude_number Illegal = 18
+unfoldable pub altitude : ℕ → Result Altitude Refusal
+altitude ac = pick (ltb 8191 ac) (Err refusal.Range) (read_as (form_of ac) ac)
 
 -- ---- what is answered
 -- the number given back, the feet, and the name of what has none: 0 for no altitude, 1 for metric
@@ -145,22 +140,20 @@ pub record Answer : Type 0 where
   pub feet : List ℤ
   pub named : List ℕ
 
-abbrev pub feet_of : Altitude → List ℤ
-feet_of (Feet z) = z ∷ []
-feet_of None = []
-feet_of Metric = []
-feet_of Range = []
-feet_of Illegal = []
+abbrev pub feet_of : Result Altitude Refusal → List ℤ
+feet_of (Ok (Feet z)) = z ∷ []
+feet_of (Ok None) = []
+feet_of (Ok Metric) = []
+feet_of (Err r) = []
 
-abbrev pub name_of : Altitude → List ℕ
-name_of (Feet z) = []
-name_of None = 0 ∷ []
-name_of Metric = 1 ∷ []
-name_of Range = []
-name_of Illegal = []
+abbrev pub name_of : Result Altitude Refusal → List ℕ
+name_of (Ok (Feet z)) = []
+name_of (Ok None) = 0 ∷ []
+name_of (Ok Metric) = 1 ∷ []
+name_of (Err r) = []
 
-abbrev pub altitude_said : Altitude → Answer
-altitude_said a = record { number = altitude_number a; feet = feet_of a; named = name_of a }
+abbrev pub altitude_said : Result Altitude Refusal → Answer
+altitude_said a = record { number = number_given a; feet = feet_of a; named = name_of a }
 
 unfoldable pub altitude_told : ℕ → Answer
 altitude_told ac = altitude_said (altitude ac)

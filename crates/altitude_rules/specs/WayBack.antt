@@ -1,12 +1,12 @@
 -- The way back: the code of an altitude in feet, the 25 ft form where it reaches, else the 100 ft code. It never rounds.
-use Rattle.std.specs.Prelude.{ℕ, ◌+◌, ◌-◌, ◌/◌, ◌%◌, List, [], ◌∷◌, Bool, not, ◌&&◌, ◌||◌, eqb, leb, ℤ, pos, negsuc, get_or}
+use Rattle.std.specs.Prelude.{ℕ, ◌+◌, ◌-◌, ◌/◌, ◌%◌, List, [], ◌∷◌, Bool, not, ◌&&◌, ◌||◌, eqb, leb, ℤ, pos, negsuc, get_or, Result, Ok, Err}
 use Rattle.std.specs.Int.Bits.{bit_xor}
 use Rattle.lists.specs.Lists.{pick, spelled}
 use Rattle.lists.specs.Checks.{Check, check, checked}
 use Rattle.lists.specs.Answers.{Answer, done, refused_by}
 use Rattle.altitude_rules.specs.Code.{bit_at, hundreds}
-use Rattle.altitude_rules.specs.declared.code.Written.{Written}
-use Rattle.altitude_rules.specs.declared.code.Written.TheVariants.{Code, NoCode}
+use Rattle.refusals.specs.declared.refusal.Refusal.{Refusal}
+use Rattle.refusals.specs.Refusals.{number_given}
 
 -- ---- how far each form reaches
 
@@ -72,14 +72,10 @@ unfoldable pub way_back : ℤ → Answer
 unfolding way_back_checks
 way_back feet = checked (way_back_checks feet) refused_by (done (code_at (raised feet) ∷ []))
 
--- the number that request 1 gives each answer, and the code beside it
-abbrev pub written_number : Written → ℕ
-written_number (Code ac) = 0
-written_number NoCode = 19
+-- the number given back, and the code beside it
+abbrev pub code_in : Result ℕ Refusal → List ℕ
+code_in (Ok ac) = ac ∷ []
+code_in (Err r) = []
 
-abbrev pub code_in : Written → List ℕ
-code_in (Code ac) = ac ∷ []
-code_in NoCode = []
-
-abbrev pub written_said : Written → Answer
-written_said w = record { number = written_number w; values = code_in w }
+abbrev pub written_said : Result ℕ Refusal → Answer
+written_said w = record { number = number_given w; values = code_in w }

@@ -3,4 +3,4 @@
 
 mod code;
 
-pub use code::{Altitude, Written};
+pub use code::Altitude;

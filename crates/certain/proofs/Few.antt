@@ -78,7 +78,8 @@ module _ (n k : ℕ) (far : Distance (n * 8) (suc k)) where
           flips_of : List ℕ → List ℕ → Correction
           flips_of u o = record { number = 0; flips = size_of u; buffers = buffers o (mark_buffer (length msg) u) }
 
-      by_number : (l : List (List ℕ)) → matches_of msg marks overlay ≡ l → checked (match_checks l) (not_corrected lent) (flipped_by msg l) ≡ sent_back msg frame
+      by_number : (l : List (List ℕ)) → matches_of msg marks overlay ≡ l
+          → checked (match_checks l) (not_corrected lent) (flipped_by msg l) ≡ sent_back msg frame
       unfolding checked
       by_number [] e =
           absurd (match_none (sought msg overlay) (bits marks) (differing msg frame) (bits_are marks) e fits.at_marks

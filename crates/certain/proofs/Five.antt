@@ -4,8 +4,9 @@ use mathlib.Core.List.{List}
 use Prim.Native.Nat.{ℕ, suc, ◌*◌, ◌-◌, ◌^◌, ◌≤◌}
 use native.Mathlib.Omega.{arith}
 use lib.ListN.{length}
-use Rattle.parity_rules.specs.declared.answers.Fix.{Fix}
-use Rattle.parity_rules.specs.declared.answers.Fix.TheVariants.{Flips, Doubt}
+use Rattle.std.specs.Prelude.{Result, Ok, Err}
+use Rattle.refusals.specs.declared.refusal.Refusal.{Refusal}
+use Rattle.refusals.specs.declared.refusal.Refusal.TheVariants.{Doubt}
 use Rattle.parity_rules.specs.Messages.{bits, differing, AreBytes}
 use Rattle.parity_rules.specs.Answers.{Buffers, Correction, fix_said}
 use Rattle.parity_rules.specs.Correction.{size_of, correction}
@@ -51,16 +52,16 @@ certain n k claimed =
 -- the same from what `correct` promises of its answer f and of the buffers b that it leaves: f is not Doubt, and it is the flips, with the frame sent in the
 -- output and in the places the marks of where it differs
 module _ (n k : ℕ) (certain : Certain n k) (msg marks : List ℕ) (overlay limit : ℕ) (lent b : Buffers) (short : length msg ≤ n) where
-  pub call_undoubted : limit ≤ k → fix_said Doubt b ≡ correction msg marks overlay limit lent → ⊥
+  pub call_undoubted : limit ≤ k → fix_said (Err Doubt) b ≡ correction msg marks overlay limit lent → ⊥
   call_undoubted h e = certain.undoubted msg marks overlay limit lent short h (ap (λ (o : Correction). o.number) (sym e))
 
-  pub call_sent : (f : Fix) (frame : List ℕ) → AreBytes msg → InLimit msg marks limit lent → marked marks ≤ k → Fitting msg marks overlay frame
+  pub call_sent : (f : Result ℕ Refusal) (frame : List ℕ) → AreBytes msg → InLimit msg marks limit lent → marked marks ≤ k → Fitting msg marks overlay frame
       → fix_said f b ≡ correction msg marks overlay limit lent
-      → (f ≡ Flips (size_of (differing msg frame))) × (b.output ≡ frame) × (bits b.places ≡ differing msg frame)
+      → (f ≡ Ok (size_of (differing msg frame))) × (b.output ≡ frame) × (bits b.places ≡ differing msg frame)
   call_sent f frame bytes in_limit few fits e =
-      let c : fix_said f b ≡ fix_said (Flips (size_of (differing msg frame))) (sent_back msg frame).buffers =
+      let c : fix_said f b ≡ fix_said (Ok (size_of (differing msg frame))) (sent_back msg frame).buffers =
       e ∙ certain.sent msg marks overlay limit lent frame short bytes in_limit few fits in
-      let o = fix_one f (Flips (size_of (differing msg frame))) b (sent_back msg frame).buffers c in (
+      let o = fix_one f (Ok (size_of (differing msg frame))) b (sent_back msg frame).buffers c in (
         o.0,
         ap (λ (x : Buffers). x.output) o.1,
         ap (λ (x : Buffers). bits x.places) o.1

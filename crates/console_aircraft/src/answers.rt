@@ -1,12 +1,9 @@
 // The answers without a value.
-ghost use Rattle.console_rules.specs.Aircraft.{Showed, number_said};
-
-use console_rules::{Aircraft, Shown};
+ghost use Rattle.console_rules.specs.Texts.{Brief, refusal_text};
 
 // A call's number alone.
-pub(crate) fn put_number(n: u8, a: Aircraft, out: &mut [u8]) -> Shown
-    ensures { Showed (number_said n a) out.old out.new result }
+pub(crate) fn put_number(n: u8, out: &mut [u8]) -> usize
+    ensures { Brief (refusal_text n) out.old out.new result }
 {
-    let size = console_plain::put_refusal(out, n as u32);
-    Shown { size, aircraft: a }
+    console_plain::put_refusal(out, n as u32)
 }

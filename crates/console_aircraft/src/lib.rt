@@ -9,6 +9,4 @@ mod sending;
 mod showing;
 mod state;
 
-pub use console_rules::{Aircraft, Shown};
 pub use lines::put_flight;
-pub use state::none;

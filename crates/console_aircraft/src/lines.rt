@@ -6,11 +6,12 @@ use crate::making::put_model;
 use crate::queuing::put_queue;
 use crate::sending::put_send;
 use crate::showing::put_state;
-use console_rules::{Aircraft, FlightLine, Shown};
+use console_rules::FlightLine;
+use model_rules::Transponder;
 
 // What a line says, and the aircraft that it leaves.
-pub fn put_flight(l: FlightLine, line: &[u8], a: Aircraft, out: &mut [u8]) -> Shown
-    ensures { Showed (flight_said l a (words_of line.now)) out.old out.new result }
+pub fn put_flight(l: FlightLine, line: &[u8], a: &mut Option<Transponder>, out: &mut [u8]) -> usize
+    ensures { Showed (flight_said l a.old (words_of line.now)) out.old out.new a.new result }
 {
     match l {
         FlightLine::Model => put_model(line, a, out),

@@ -1,29 +1,18 @@
 // The line `queue HEX`.
 ghost use Rattle.text_rules.specs.Line.{words_of};
-ghost use Rattle.console_rules.specs.Aircraft.{Showed, queued_said, queue_said};
+ghost use Rattle.console_rules.specs.Aircraft.{Showed, queue_said};
 
 use crate::answers::put_number;
-use console_rules::{Aircraft, Shown};
-use model_rules::Queued;
-
-// What the queuing answered.
-fn put_queued(q: Queued, out: &mut [u8]) -> Shown
-    ensures { Showed (queued_said q) out.old out.new result }
-{
-    let transponder = q.transponder;
-    let flying = Aircraft {
-        made: true,
-        transponder,
-    };
-    put_number(q.number, flying, out)
-}
+use crate::state::of_zeros;
+use model_rules::Transponder;
+use refusals::number_given;
 
 // Queues a message.
-pub(crate) fn put_queue(line: &[u8], a: Aircraft, out: &mut [u8]) -> Shown
-    ensures { Showed (queue_said a (words_of line.now)) out.old out.new result }
+pub(crate) fn put_queue(line: &[u8], a: &mut Option<Transponder>, out: &mut [u8]) -> usize
+    ensures { Showed (queue_said a.old (words_of line.now)) out.old out.new a.new result }
 {
     let mut message = [0u8; 32];
     let n = console_plain::bytes_at(line, 1, &mut message);
-    let t = a.transponder;
-    put_queued(model::queue(t, &message[..n]), out)
+    let t = a.get_or_insert_with(of_zeros);
+    put_number(number_given(&model::queue(t, &message[..n])), out)
 }

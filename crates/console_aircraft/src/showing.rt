@@ -4,25 +4,25 @@ ghost use Rattle.text_rules.specs.Put.{Put};
 ghost use Rattle.console_rules.specs.Texts.{Brief};
 ghost use Rattle.console_rules.specs.Aircraft.{Showed, holder_text, lock_text, locks_text, held_text, shown_text, state_text, state_said};
 
-use console_rules::{Aircraft, Shown};
-use model_rules::{Holder, Lock, Timers, Transponder};
+use crate::state::of_zeros;
+use model_rules::{Holder, Timers, Transponder};
 
 // The holder's II, or "-" for nobody.
-fn put_holder(out: &mut [u8], at: usize, h: Holder) -> usize
+fn put_holder(out: &mut [u8], at: usize, h: Option<Holder>) -> usize
     ensures { Put (holder_text h) at out.old out.new result × (length (holder_text h) ≤ 3) }
 {
     match h {
-        Holder::Nobody => text::put_byte(out, at, 45),
-        Holder::Held { ii, since: _ } => text::put_decimal(out, at, ii as u32),
+        None => text::put_byte(out, at, 45),
+        Some(x) => text::put_decimal(out, at, x.ii as u32),
     }
 }
 
 // The code of the k-th timer, if it locks.
-fn put_lock(out: &mut [u8], at: usize, k: u32, lock: Lock) -> usize
+fn put_lock(out: &mut [u8], at: usize, k: u32, timer: Option<u32>) -> usize
     requires { at ≤ length out.old }
-    ensures { Put (lock_text k lock) at out.old out.new result }
+    ensures { Put (lock_text k timer) at out.old out.new result }
 {
-    if !model::locks(lock) {
+    if timer.is_none() {
         return at;
     }
     if k < 16 {
@@ -41,18 +41,14 @@ fn put_locks(out: &mut [u8], at: usize, timers: Timers) -> usize
         return out.len();
     }
     let mut next = at;
-    let mut i: usize = 0;
-    while i < 79 {
-        let x = timers.list[i];
-        let lock = x.lock;
-        next = put_lock(out, next, i as u32, lock);
-        i += 1;
+    for i in 0..79 {
+        next = put_lock(out, next, i as u32, timers.list[i]);
     }
     next
 }
 
 // The holder, how many messages wait, and the codes that are locked.
-fn put_held(out: &mut [u8], at: usize, holder: Holder, queued: u32, timers: Timers) -> usize
+fn put_held(out: &mut [u8], at: usize, holder: Option<Holder>, queued: u32, timers: Timers) -> usize
     ensures { Put (held_text holder queued timers.list) at out.old out.new result × (length (holder_text holder) ≤ 3) }
 {
     let at_holder = text::put_byte(out, at, 32);
@@ -63,7 +59,13 @@ fn put_held(out: &mut [u8], at: usize, holder: Holder, queued: u32, timers: Time
 }
 
 // 0, the time, and what the aircraft holds.
-fn put_shown(out: &mut [u8], time: u32, holder: Holder, queued: u32, timers: Timers) -> usize
+fn put_shown(
+    out: &mut [u8],
+    time: u32,
+    holder: Option<Holder>,
+    queued: u32,
+    timers: Timers,
+) -> usize
     ensures { Brief (shown_text time holder queued timers.list) out.old out.new result }
 {
     let at_time = text::put_bytes(out, 0, b"0 ");
@@ -76,18 +78,13 @@ fn put_shown(out: &mut [u8], time: u32, holder: Holder, queued: u32, timers: Tim
 fn put_transponder(t: Transponder, out: &mut [u8]) -> usize
     ensures { Brief (state_text t) out.old out.new result }
 {
-    let messages = t.messages;
-    let queued = model::count(messages) as u32;
-    let holder = t.holder;
-    let timers = t.timers;
-    put_shown(out, t.time, holder, queued, timers)
+    let queued = model::count(&t.messages) as u32;
+    put_shown(out, t.time, t.holder, queued, t.timers)
 }
 
 // Shows the aircraft.
-pub(crate) fn put_state(a: Aircraft, out: &mut [u8]) -> Shown
-    ensures { Showed (state_said a) out.old out.new result }
+pub(crate) fn put_state(a: &Option<Transponder>, out: &mut [u8]) -> usize
+    ensures { Showed (state_said a.now) out.old out.new a.now result }
 {
-    let t = a.transponder;
-    let size = put_transponder(t, out);
-    Shown { size, aircraft: a }
+    put_transponder(a.unwrap_or_else(of_zeros), out)
 }

@@ -1,32 +1,28 @@
 -- What a line tells by its words: nothing for none and for a comment, else why it is not read, or what its call tells.
-use Prim.Native.Nat.{ℕ, ◌-◌, ◌+◌, ◌≤◌, ◌<◌, min}
+use Rattle.std.specs.Prelude.{Option, Result, Ok, Err, is_some}
+use Prim.Native.Nat.{ℕ, ◌-◌, ◌≤◌, ◌<◌}
 use native.Mathlib.Omega.{arith}
 use mathlib.Core.Path.{◌≡◌, refl, sym, ap, ◌∙◌}
-use mathlib.Core.Bool.{Bool, true, false, not}
+use mathlib.Core.Bool.{Bool, true, false}
 use mathlib.Core.List.{List, [], ◌∷◌}
 use lib.Dec.{eqb}
 use lib.ListN.{length, get_or, take, drop}
-use borrow.Author.Tests.{lt-ltb, le-ltb, not-true, not-false}
+use borrow.Author.Tests.{lt-ltb, le-ltb}
 use Rattle.lists.specs.Lists.{pick}
-use Rattle.text_rules.specs.Line.{words_of, within, same_as, LineHeld, NthWord}
+use Rattle.text_rules.specs.Line.{words_of, NthWord}
 use Rattle.text_rules.specs.Put.{Put}
 use Rattle.text_rules.specs.declared.answer.Span.{Span}
 use Rattle.text_rules.proofs.Laid.{put_none}
 use Rattle.console_plain.proofs.Texts.{word_of}
 use Rattle.console_rules.specs.Texts.{word, Brief, room}
 use Rattle.station_rules.specs.declared.state.Station.{Station}
-use Rattle.console_rules.specs.declared.state.Served.{Served}
 use Rattle.console_rules.specs.Station.{Spoken, Spoke}
-use Rattle.console_rules.specs.declared.state.Aircraft.{Aircraft}
-use Rattle.console_rules.specs.declared.state.Shown.{Shown}
+use Rattle.model_rules.specs.declared.state.Transponder.{Transponder}
 use Rattle.console_rules.specs.declared.state.Bench.{Bench}
-use Rattle.console_rules.specs.declared.state.Answered.{Answered}
 use Rattle.console_rules.specs.declared.names.Command.{Command}
-use Rattle.console_rules.specs.declared.names.Row.{Row}
 use Rattle.console_rules.specs.declared.names.Reason.{Reason}
-use Rattle.console_rules.specs.Names.{table, no_row, row_count, row_at, row_in, row_of}
-use Rattle.console_rules.proofs.Table.{row_taken, row_passed, no_rows}
-use Rattle.console_rules.specs.Reasons.{too_long, is_too_long, reason_of, is_read, reason_text}
+use Rattle.console_rules.specs.Names.{row_of}
+use Rattle.console_rules.specs.Reasons.{too_long, is_too_long, reading, reason_text}
 use Rattle.console_rules.specs.Aircraft.{Said, Showed}
 use Rattle.console_rules.specs.Console.{Answers, telling, flown, served, ended, comment, call_told, judged_told, row_told, command_told, words_told, line_told}
 
@@ -44,86 +40,65 @@ comment_first (b ∷ w) h = refl
 -- ---- what was answered
 
 -- a text that fits was laid, and the bench stays
-pub stays : {t : List ℕ} {b : Bench} {size : ℕ} {l m : List ℕ} {r : Answered} → r ≡ record { size = size; bench = b } → Put t 0 l m size → length t ≤ room
-    → Answers (telling t b) l m r
-stays e p h = rw e (record { text_put = p; bench = refl; short = h })
+pub stays : {t : List ℕ} {b : Bench} {size : ℕ} {l m : List ℕ} → Put t 0 l m size → length t ≤ room → Answers (telling t b) l m b size
+stays p h = record { text_put = p; bench = refl; short = h }
 
 -- no text was laid
-pub stays_silent : {b : Bench} {l : List ℕ} {r : Answered} → r ≡ record { size = 0; bench = b } → Answers (telling [] b) l l r
-stays_silent {b} {l} e = stays e (put_none 0 l (omega arith)) (omega arith)
+pub stays_silent : {b : Bench} {l : List ℕ} → Answers (telling [] b) l l b 0
+stays_silent {b} {l} = stays (put_none 0 l (omega arith)) (omega arith)
 
 -- a line of the aircraft was shown
-pub flies : (b : Bench) {a : Said} {s : Shown} {l m : List ℕ} {r : Answered}
-    → r ≡ record { size = s.size; bench = record { aircraft = s.aircraft; station = b.station; over = b.over } } → Showed a l m s
-    → Answers (flown b a) l m r
-flies b e p =
-    rw e
-    (record {
+pub flies : (b : Bench) {a : Said} {r : Option Transponder} {size : ℕ} {l m : List ℕ} → Showed a l m r size
+    → Answers (flown b a) l m (record { aircraft = r; station = b.station; over = b.over }) size
+flies b p =
+    record {
       text_put = p.text_put;
-      bench = ap (λ (a : Aircraft). record { aircraft = a; station = b.station; over = b.over }) p.aircraft;
+      bench = ap (λ (a : Option Transponder). record { aircraft = a; station = b.station; over = b.over }) p.aircraft;
       short = omega (arith, p.short);
-    })
+    }
 
 -- a line of the station was served
-pub serves : (b : Bench) {a : Spoken} {s : Served} {l m : List ℕ} {r : Answered}
-    → r ≡ record { size = s.size; bench = record { aircraft = b.aircraft; station = s.station; over = b.over } } → Spoke a l m s
-    → Answers (served b a) l m r
-serves b e p =
-    rw e
-    (record {
+pub serves : (b : Bench) {a : Spoken} {s : Station} {size : ℕ} {l m : List ℕ} → Spoke a l m s size
+    → Answers (served b a) l m (record { aircraft = b.aircraft; station = s; over = b.over }) size
+serves b p =
+    record {
       text_put = p.text_put;
       bench = ap (λ (a : Station). record { aircraft = b.aircraft; station = a; over = b.over }) p.station;
       short = p.short;
-    })
+    }
 
 -- the console was quit, and nothing was laid
-pub ends : (b : Bench) {l : List ℕ} {r : Answered} → r ≡ record { size = 0; bench = ended b } → Answers (telling [] (ended b)) l l r
-ends b e = stays_silent e
+pub ends : (b : Bench) {l : List ℕ} → Answers (telling [] (ended b)) l l (ended b) 0
+ends b = stays_silent
 
 -- a brief text was laid
-pub briefly : {t : List ℕ} {b : Bench} {size : ℕ} {l m : List ℕ} {r : Answered} → r ≡ record { size = size; bench = b } → Brief t l m size
-    → Answers (telling t b) l m r
-briefly e p = stays e p.text_put (omega (arith, p.short))
+pub briefly : {t : List ℕ} {b : Bench} {size : ℕ} {l m : List ℕ} → Brief t l m size → Answers (telling t b) l m b size
+briefly p = stays p.text_put (omega (arith, p.short))
 
 pub too_long_fits : length too_long ≤ room
 too_long_fits = omega arith
 
 -- ---- the call of a line that is read
 
-pub its_call : (b : Bench) (ws : List (List ℕ)) {c d : Command} {l m : List ℕ} {s : Answered} → c ≡ d → Answers (call_told d b ws) l m s
-    → Answers (call_told c b ws) l m s
+pub its_call : (b : Bench) (ws : List (List ℕ)) {c d : Command} {l m : List ℕ} {q : Bench} {s : ℕ} → c ≡ d → Answers (call_told d b ws) l m q s
+    → Answers (call_told c b ws) l m q s
 its_call b ws e p = rw e p
 
--- w is the first word, r its row, and why the reason not to read the line
-module _ (b : Bench) (ws : List (List ℕ)) {w : List ℕ} {r : Row} {why : Reason} where
-  module _ (first : w ≡ word 0 ws) (found : r ≡ row_of w) (judged : why ≡ reason_of r b.aircraft.made ws) {read : Bool} (told : read ≡ is_read why) where
-    by_reason : {v : Bool} → read ≡ v → command_told b ws ≡ pick v (call_told r.command b ws) (telling (reason_text why) b)
-    unfolding command_told row_told judged_told
-    by_reason e = rw (← first, ← found, ← judged, ← told, e)
+-- w is the first word, and x the call of its line or why it is not read
+module _ (b : Bench) (ws : List (List ℕ)) {w : List ℕ} {x : Result Command Reason} (first : w ≡ word 0 ws)
+    {made : Bool} (has : made ≡ is_some b.aircraft) (read : x ≡ reading (row_of w) made ws) where
+  told_is : command_told b ws ≡ judged_told x b ws
+  unfolding command_told row_told
+  told_is = rw (← first, ← has, ← read)
 
-    module _ {l m : List ℕ} {s : Answered} where
-      pub was_read : not read ≡ false → Answers (call_told r.command b ws) l m s → Answers (command_told b ws) l m s
-      was_read h p = rw (by_reason (not-false read h)) p
+  module _ {l m : List ℕ} {size : ℕ} where
+    pub was_read : {c : Command} {q : Bench} → x ≡ Ok c → Answers (call_told c b ws) l m q size → Answers (command_told b ws) l m q size
+    unfolding judged_told
+    was_read e p = rw (told_is, e) p
 
-      pub not_read : not read ≡ true → {size : ℕ} → s ≡ record { size = size; bench = b } → Brief (reason_text why) l m size → Answers (command_told b ws) l m s
-      not_read h e p = rw (by_reason (not-true read h)) (briefly e p)
-
-pub ruleset calls = (was_read, not_read)
-
--- ---- `search rows` finds the row of a name, row by row: what the rows from k on say is what all of them say
-
-module _ (w : List ℕ) (k : ℕ) (e : row_of w ≡ row_in w (drop k table)) where
-  module _ {b : Bool} (h : k < row_count) (same : b ≡ same_as w (row_at k).name) where
-    pub row_found : {r : Row} → b ≡ true → r ≡ (row_at k).row → r ≡ row_of w
-    row_found t f = f ∙ sym (row_taken w k h e (sym same ∙ t))
-
-    pub row_other : b ≡ false → row_of w ≡ row_in w (drop (k + 1) table)
-    row_other t = row_passed w k h e (sym same ∙ t)
-
-  pub rows_over : {r : Row} → k ≤ row_count → row_count ≤ k → r ≡ no_row → r ≡ row_of w
-  rows_over h n f = f ∙ sym (no_rows w k e (omega arith))
-
-pub ruleset rows = (row_found, row_other, rows_over)
+    pub not_read : {why : Reason} → x ≡ Err why → Brief (reason_text why) l m size → Answers (command_told b ws) l m b size
+    unfolding judged_told
+    not_read e p = rw (told_is, e) (briefly p)
 
 -- ---- a line by its words
 
@@ -142,20 +117,20 @@ unfolding words_told word
 answered_by b [] n h = absurd (n refl)
 answered_by b (w ∷ ws) n h = rw h
 
-pub no_words : (b : Bench) (line : List ℕ) {n : ℕ} {l m : List ℕ} {s : Answered} → n ≡ length (words_of line) → n ≡ 0 → Answers (telling [] b) l m s
-    → Answers (words_told b (words_of line)) l m s
+pub no_words : (b : Bench) (line : List ℕ) {n : ℕ} {l m : List ℕ} {q : Bench} {s : ℕ} → n ≡ length (words_of line) → n ≡ 0 → Answers (telling [] b) l m q s
+    → Answers (words_told b (words_of line)) l m q s
 no_words b line e h p = rw (none_by b (words_of line) (sym e ∙ h)) p
 
 module _ (line : List ℕ) {w : Span} {t : Bool} (first : NthWord line 0 w) (told : t ≡ comment (take (w.to - w.from) (drop w.from line))) where
   at_first : {v : Bool} → t ≡ v → comment (word 0 (words_of line)) ≡ v
   at_first h = ap comment (sym (word_of first)) ∙ sym told ∙ h
 
-  module _ (b : Bench) {l m : List ℕ} {s : Answered} where
-    pub silent : t ≡ true → Answers (telling [] b) l m s → Answers (words_told b (words_of line)) l m s
+  module _ (b : Bench) {l m : List ℕ} {q : Bench} {s : ℕ} where
+    pub silent : t ≡ true → Answers (telling [] b) l m q s → Answers (words_told b (words_of line)) l m q s
     silent h p = rw (silent_by b (words_of line) (at_first h)) p
 
-    pub answered : {n : ℕ} → t ≡ false → n ≡ length (words_of line) → (n ≡ 0 → ⊥) → Answers (command_told b (words_of line)) l m s
-        → Answers (words_told b (words_of line)) l m s
+    pub answered : {n : ℕ} → t ≡ false → n ≡ length (words_of line) → (n ≡ 0 → ⊥) → Answers (command_told b (words_of line)) l m q s
+        → Answers (words_told b (words_of line)) l m q s
     answered h e k p = rw (answered_by b (words_of line) (λ z. k (e ∙ z)) (at_first h)) p
 
 pub ruleset lines = (no_words, silent, answered)
@@ -173,14 +148,14 @@ module _ (b : Bench) (line : List ℕ) where
         ap (λ (t : Bool). pick t (telling [] b) (pick (is_too_long line) (telling too_long b) (words_told b (words_of line)))) h
         ∙ ap (λ (t : Bool). pick t (telling too_long b) (words_told b (words_of line))) k
 
-  module _ {l m : List ℕ} {s : Answered} where
-    pub over_line : b.over ≡ true → Answers (telling [] b) l m s → Answers (line_told b line) l m s
+  module _ {l m : List ℕ} {q : Bench} {s : ℕ} where
+    pub over_line : b.over ≡ true → Answers (telling [] b) l m q s → Answers (line_told b line) l m q s
     over_line h p = rw (over_told h) p
 
-    pub long_line : b.over ≡ false → 1000 < length line → Answers (telling too_long b) l m s → Answers (line_told b line) l m s
+    pub long_line : b.over ≡ false → 1000 < length line → Answers (telling too_long b) l m q s → Answers (line_told b line) l m q s
     long_line h k p = rw (line_told_is h (lt-ltb 1000 (length line) k)) p
 
-    pub short_line : b.over ≡ false → length line ≤ 1000 → Answers (words_told b (words_of line)) l m s → Answers (line_told b line) l m s
+    pub short_line : b.over ≡ false → length line ≤ 1000 → Answers (words_told b (words_of line)) l m q s → Answers (line_told b line) l m q s
     short_line h k p = rw (line_told_is h (le-ltb 1000 (length line) k)) p
 
 pub ruleset whole = (over_line, long_line, short_line)

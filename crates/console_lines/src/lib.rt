@@ -8,5 +8,5 @@ mod program;
 mod reasons;
 
 pub use console::{begin, console_line};
-pub use console_rules::{Answered, Bench};
+pub use console_rules::Bench;
 pub use program::run;

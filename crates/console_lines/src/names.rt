@@ -1,123 +1,208 @@
 // The lines of the console by their names.
-ghost use Rattle.std.specs.Prelude.{◌<◌, ◌≡◌};
-ghost use Rattle.text_rules.specs.Line.{same_as};
-ghost use Rattle.console_rules.specs.Names.{no_row, row_of, row_at, row_count};
+ghost use Rattle.std.specs.Prelude.{◌≡◌};
+ghost use Rattle.console_rules.specs.Names.{row_of};
 
 use console_rules::{Command, FlightLine, PlainLine, Row, StationLine};
 
-// The word is the k-th name.
-fn is_name(word: &[u8], k: usize) -> bool
-    ensures { result ≡ same_as word.now (row_at k).name }
-{
-    let names: &[u8] = b"remainder overlay correct build allcall up down code feet ac \
-        model queue send state setup target remove move request plan reply report \
-        targets entries explain quit help";
-    let w = text::nth_word(names, k);
-    let from = w.from;
-    let to = w.to;
-    text::same(word, &names[from..to])
-}
-
-// How many lines there are.
-const ROWS: usize = 27;
-
-// The calls in the order of their names.
-const COMMANDS: [Command; ROWS] = [
-    Command::Plain(PlainLine::Remainder),
-    Command::Plain(PlainLine::Overlay),
-    Command::Plain(PlainLine::Correct),
-    Command::Plain(PlainLine::Build),
-    Command::Plain(PlainLine::AllCall),
-    Command::Plain(PlainLine::Up),
-    Command::Plain(PlainLine::Down),
-    Command::Plain(PlainLine::Code),
-    Command::Plain(PlainLine::Feet),
-    Command::Plain(PlainLine::Ac),
-    Command::Flight(FlightLine::Model),
-    Command::Flight(FlightLine::Queue),
-    Command::Flight(FlightLine::Send),
-    Command::Flight(FlightLine::State),
-    Command::Station(StationLine::Setup),
-    Command::Station(StationLine::Target),
-    Command::Station(StationLine::Remove),
-    Command::Station(StationLine::Move),
-    Command::Station(StationLine::Request),
-    Command::Station(StationLine::Plan),
-    Command::Station(StationLine::Reply),
-    Command::Station(StationLine::Report),
-    Command::Station(StationLine::Targets),
-    Command::Station(StationLine::Entries),
-    Command::Plain(PlainLine::Explain),
-    Command::Quit,
-    Command::Plain(PlainLine::Help),
+// Each line: its name, its call, how many words stand behind the name, which of them are bytes, one or two, and which may have a minus sign, counted
+// from 1 with 0 for none, and whether it needs an aircraft.
+const LINES: [(&[u8], Command, u8, u8, u8, u8, bool); 27] = [
+    (
+        b"remainder",
+        Command::Plain(PlainLine::Remainder),
+        1,
+        1,
+        0,
+        0,
+        false,
+    ),
+    (
+        b"overlay",
+        Command::Plain(PlainLine::Overlay),
+        1,
+        0,
+        0,
+        0,
+        false,
+    ),
+    (
+        b"correct",
+        Command::Plain(PlainLine::Correct),
+        4,
+        1,
+        2,
+        0,
+        false,
+    ),
+    (
+        b"build",
+        Command::Plain(PlainLine::Build),
+        7,
+        6,
+        0,
+        0,
+        false,
+    ),
+    (
+        b"allcall",
+        Command::Plain(PlainLine::AllCall),
+        3,
+        0,
+        0,
+        0,
+        false,
+    ),
+    (b"up", Command::Plain(PlainLine::Up), 1, 1, 0, 0, false),
+    (b"down", Command::Plain(PlainLine::Down), 1, 1, 0, 0, false),
+    (b"code", Command::Plain(PlainLine::Code), 4, 1, 0, 0, false),
+    (b"feet", Command::Plain(PlainLine::Feet), 1, 0, 0, 0, false),
+    (b"ac", Command::Plain(PlainLine::Ac), 1, 0, 0, 1, false),
+    (
+        b"model",
+        Command::Flight(FlightLine::Model),
+        5,
+        0,
+        0,
+        0,
+        false,
+    ),
+    (
+        b"queue",
+        Command::Flight(FlightLine::Queue),
+        1,
+        1,
+        0,
+        0,
+        true,
+    ),
+    (b"send", Command::Flight(FlightLine::Send), 3, 3, 0, 0, true),
+    (
+        b"state",
+        Command::Flight(FlightLine::State),
+        0,
+        0,
+        0,
+        0,
+        true,
+    ),
+    (
+        b"setup",
+        Command::Station(StationLine::Setup),
+        19,
+        0,
+        0,
+        0,
+        false,
+    ),
+    (
+        b"target",
+        Command::Station(StationLine::Target),
+        3,
+        0,
+        0,
+        0,
+        false,
+    ),
+    (
+        b"remove",
+        Command::Station(StationLine::Remove),
+        1,
+        0,
+        0,
+        0,
+        false,
+    ),
+    (
+        b"move",
+        Command::Station(StationLine::Move),
+        3,
+        0,
+        0,
+        0,
+        false,
+    ),
+    (
+        b"request",
+        Command::Station(StationLine::Request),
+        8,
+        8,
+        0,
+        0,
+        false,
+    ),
+    (
+        b"plan",
+        Command::Station(StationLine::Plan),
+        1,
+        0,
+        0,
+        0,
+        false,
+    ),
+    (
+        b"reply",
+        Command::Station(StationLine::Reply),
+        4,
+        3,
+        4,
+        0,
+        false,
+    ),
+    (
+        b"report",
+        Command::Station(StationLine::Report),
+        1,
+        0,
+        0,
+        0,
+        false,
+    ),
+    (
+        b"targets",
+        Command::Station(StationLine::Targets),
+        0,
+        0,
+        0,
+        0,
+        false,
+    ),
+    (
+        b"entries",
+        Command::Station(StationLine::Entries),
+        0,
+        0,
+        0,
+        0,
+        false,
+    ),
+    (
+        b"explain",
+        Command::Plain(PlainLine::Explain),
+        1,
+        0,
+        0,
+        0,
+        false,
+    ),
+    (b"quit", Command::Quit, 0, 0, 0, 0, false),
+    (b"help", Command::Plain(PlainLine::Help), 0, 0, 0, 0, false),
 ];
 
-// How many words stand behind each name.
-const WORDS: [u8; ROWS] = [
-    1, 1, 4, 7, 3, 1, 1, 4, 1, 1, 5, 1, 3, 0, 19, 3, 1, 3, 8, 1, 4, 1, 0, 0, 1, 0, 0,
-];
-
-// Which of them are bytes, one or two, counted from 1; 0 for none.
-const BYTES: [u8; ROWS] = [
-    1, 0, 1, 6, 0, 1, 1, 1, 0, 0, 0, 1, 3, 0, 0, 0, 0, 0, 8, 0, 3, 0, 0, 0, 0, 0, 0,
-];
-
-const MORE: [u8; ROWS] = [
-    0, 0, 2, 0, 0, 0, 0, 0, 0, 0, 0, 0, 0, 0, 0, 0, 0, 0, 0, 0, 4, 0, 0, 0, 0, 0, 0,
-];
-
-// Which of them may have a minus sign; 0 for none.
-const SIGN: [u8; ROWS] = [
-    0, 0, 0, 0, 0, 0, 0, 0, 0, 1, 0, 0, 0, 0, 0, 0, 0, 0, 0, 0, 0, 0, 0, 0, 0, 0, 0,
-];
-
-// Which lines need an aircraft.
-const AIRCRAFT: [bool; ROWS] = [
-    false, false, false, false, false, false, false, false, false, false, false, true, true, true,
-    false, false, false, false, false, false, false, false, false, false, false, false, false,
-];
-
-// The line with the k-th name.
-fn row_at(k: usize) -> Row
-    requires { k < row_count }
-    ensures { result ≡ (row_at k).row }
-{
-    Row {
-        known: true,
-        command: COMMANDS[k],
-        words: WORDS[k],
-        bytes: BYTES[k],
-        more: MORE[k],
-        sign: SIGN[k],
-        aircraft: AIRCRAFT[k],
-    }
-}
-
-// There is no such line.
-fn no_row() -> Row
-    ensures { result ≡ no_row }
-{
-    Row {
-        known: false,
-        command: Command::Unknown,
-        words: 0,
-        bytes: 0,
-        more: 0,
-        sign: 0,
-        aircraft: false,
-    }
-}
-
-// The line that a word names.
-pub(crate) fn find_row(word: &[u8]) -> Row
+// The line that a word names, if there is one.
+pub(crate) fn find_row(word: &[u8]) -> Option<Row>
     ensures { result ≡ row_of word.now }
 {
-    let mut k: usize = 0;
-    while k < ROWS {
-        if is_name(word, k) {
-            return row_at(k);
+    for (name, command, words, bytes, more, sign, aircraft) in LINES {
+        if text::same(word, name) {
+            return Some(Row {
+                command,
+                words,
+                bytes,
+                more,
+                sign,
+                aircraft,
+            });
         }
-        k += 1;
     }
-    no_row()
+    None
 }

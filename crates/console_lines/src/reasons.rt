@@ -1,94 +1,74 @@
-// Why a line is not read.
-ghost use Rattle.std.specs.Prelude.{◌≡◌, not, ◌&&◌, ◌++◌};
+// The call of a line that is read, or why it is not.
+ghost use Rattle.std.specs.Prelude.{◌≡◌, ◌++◌};
 ghost use Rattle.text_rules.specs.Put.{Put, decimal};
 ghost use Rattle.text_rules.specs.Line.{words_of};
 ghost use Rattle.console_rules.specs.Texts.{Brief};
-ghost use Rattle.console_rules.specs.Reasons.{too_long, sort_at, fault, word_reason, reason_of, is_read, reason_text};
+ghost use Rattle.console_rules.specs.Names.{row_of};
+ghost use Rattle.console_rules.specs.Reasons.{too_long, sort_at, fault, unfit, judged, reading, reason_text};
 
-use console_rules::{Reason, Row, Sort};
+use crate::names::find_row;
+use console_rules::{Command, Reason, Row, Sort};
 
 // What belongs at the k-th word.
 fn sort_at(r: Row, k: u8) -> Sort
     ensures { result ≡ sort_at r k }
 {
-    if k == r.bytes {
-        return Sort::Bytes;
+    if k == r.bytes || k == r.more {
+        Sort::Bytes
+    } else if k == r.sign {
+        Sort::Integer
+    } else {
+        Sort::Number
     }
-    if k == r.more {
-        return Sort::Bytes;
-    }
-    if k == r.sign {
-        return Sort::Integer;
-    }
-    Sort::Number
 }
 
-// The first word that does not say what belongs there, counted from 1 behind the name; 0 where all do.
-fn find_fault(line: &[u8], r: Row) -> u8
+// The first word that does not say what belongs there, counted from 1 behind the name.
+fn find_fault(line: &[u8], r: Row) -> Option<u8>
     ensures { result ≡ fault r (words_of line.now) }
 {
-    let mut k: u8 = 0;
-    while k < r.words {
-        k += 1;
-        if !console_plain::says_at(line, k as usize, sort_at(r, k)) {
-            return k;
+    for k in 0..r.words {
+        let at = k + 1;
+        if !console_plain::says_at(line, at as usize, sort_at(r, at)) {
+            return Some(at);
         }
     }
-    0
+    None
 }
 
-// The word at fault, if there is one.
-fn word_reason(r: Row, k: u8) -> Reason
-    ensures { result ≡ word_reason r k }
+// The k-th word is not of its sort.
+fn unfit(s: Sort, k: u8) -> Reason
+    ensures { result ≡ unfit s k }
 {
-    if k == 0 {
-        return Reason::Read;
-    }
-    match sort_at(r, k) {
-        Sort::Number => Reason::NoNumber(k),
-        Sort::Integer => Reason::NoNumber(k),
+    match s {
+        Sort::Number | Sort::Integer => Reason::NoNumber(k),
         Sort::Bytes => Reason::NoBytes(k),
     }
 }
 
-// An aircraft is needed, and there is none.
-fn is_grounded(needed: bool, made: bool) -> bool
-    ensures { result ≡ (needed && not made) }
+// The call of a line that is read, or why it is not; an aircraft was made or not.
+fn judge(line: &[u8], r: Row, made: bool) -> Result<Command, Reason>
+    ensures { result ≡ judged r made (words_of line.now) }
 {
-    if !needed {
-        return false;
-    }
-    !made
-}
-
-// Why a line is not read, or that it is; an aircraft was made or not.
-pub(crate) fn judge(line: &[u8], r: Row, made: bool) -> Reason
-    ensures { result ≡ reason_of r made (words_of line.now) }
-{
-    if !r.known {
-        return Reason::NoSuchLine;
-    }
     if text::word_count(line) != r.words as usize + 1 {
-        return Reason::Wanted(r.words);
+        return Err(Reason::Wanted(r.words));
     }
-    if is_grounded(r.aircraft, made) {
-        return Reason::NoAircraft;
+    if r.aircraft && !made {
+        return Err(Reason::NoAircraft);
     }
-    word_reason(r, find_fault(line, r))
+    match find_fault(line, r) {
+        None => Ok(r.command),
+        Some(k) => Err(unfit(sort_at(r, k), k)),
+    }
 }
 
-// The line is read.
-pub(crate) fn is_read(why: Reason) -> bool
-    ensures { result ≡ is_read why }
+// The call of the line that a word names, if the line is read, or why it is not.
+pub(crate) fn read(line: &[u8], name: &[u8], made: bool) -> Result<Command, Reason>
+    ensures { result ≡ reading (row_of name.now) made (words_of line.now) }
 {
-    match why {
-        Reason::Read => true,
-        Reason::NoSuchLine => false,
-        Reason::Wanted(_) => false,
-        Reason::NoAircraft => false,
-        Reason::NoNumber(_) => false,
-        Reason::NoBytes(_) => false,
-    }
+    let Some(r) = find_row(name) else {
+        return Err(Reason::NoSuchLine);
+    };
+    judge(line, r, made)
 }
 
 // A number within a text.
@@ -105,7 +85,6 @@ pub(crate) fn put_reason(why: Reason, out: &mut [u8]) -> usize
     ensures { Brief (reason_text why) out.old out.new result }
 {
     match why {
-        Reason::Read => 0,
         Reason::NoSuchLine => text::put_bytes(out, 0, b"? no such line\n"),
         Reason::Wanted(n) => put_counted(out, b"? words wanted: ", n, b"\n"),
         Reason::NoAircraft => text::put_bytes(out, 0, b"? no aircraft\n"),

@@ -10,9 +10,11 @@ use Rattle.text_rules.specs.declared.answer.Span.{Span}
 use Rattle.text_rules.specs.Line.{newline, grown, parts, lines_of, within, NthLine}
 use Rattle.text_rules.specs.Put.{Put}
 use Rattle.altitude_rules.specs.Code.{altitude}
-use Rattle.altitude_rules.specs.WayBack.{way_back, written_number, written_said}
-use Rattle.altitude_rules.specs.declared.code.Written.{Written}
-use Rattle.altitude_rules.specs.declared.code.Written.TheVariants.{NoCode}
+use Rattle.altitude_rules.specs.WayBack.{way_back, written_said}
+use Rattle.std.specs.Prelude.{Err}
+use Rattle.refusals.specs.declared.refusal.Refusal.{Refusal}
+use Rattle.refusals.specs.Refusals.{number_of}
+use Rattle.refusals.proofs.Numbers.{not_done}
 use Rattle.parity_rules.specs.Division.{remainder_answer}
 use Rattle.parity_rules.specs.Overlays.{uplink_overlay}
 use Rattle.frames_rules.specs.Answers.{Building}
@@ -47,7 +49,8 @@ module _ (ws : List (List ℕ)) {l m : List ℕ} {q : ℕ} where
   unfolding correct_text
   correct_line p a b c d = rw (a, b, c, d) at p
 
-  pub build_line : {uf pc rr di sd address : ℕ} {ma : List ℕ} → Put (selective_text uf pc rr di sd ma address) 0 l m q → uf ≡ number_at 1 ws → pc ≡ number_at 2 ws
+  pub build_line : {uf pc rr di sd address : ℕ} {ma : List ℕ} → Put (selective_text uf pc rr di sd ma address) 0 l m q → uf ≡ number_at 1 ws
+      → pc ≡ number_at 2 ws
       → rr ≡ number_at 3 ws → di ≡ number_at 4 ws → sd ≡ number_at 5 ws → ma ≡ bytes_at 6 ws → address ≡ number_at 7 ws → Put (build_text ws) 0 l m q
   unfolding build_text
   build_line p a b c d e f g = rw (a, b, c, d, e, f, g) at p
@@ -82,11 +85,11 @@ module _ (ws : List (List ℕ)) {l m : List ℕ} {q : ℕ} where
   unfolding explain_text
   explain_line p a = rw a at p
 
--- the refusal of an altitude that has no code
-pub written_refused : {w : Written} {n : ℕ} {l m : List ℕ} {q : ℕ} → w ≡ NoCode → n ≡ written_number w → Put (refusal_text n) 0 l m q
-    → Put (written_text (written_said w)) 0 l m q
+-- the refusal of an altitude
+pub written_refused : (r : Refusal) {n : ℕ} {l m : List ℕ} {q : ℕ} → n ≡ number_of r → Put (refusal_text n) 0 l m q
+    → Put (written_text (written_said (Err r))) 0 l m q
 unfolding written_text answer_text
-written_refused e h p = rw e (rw (h, e) at p)
+written_refused r h p = rw (not_done r, ← h) p
 
 pub ruleset by_words =
     (remainder_line, overlay_line, correct_line, build_line, all_call_line, up_line, down_line, code_line, feet_line, ac_line, explain_line)

@@ -1,37 +1,51 @@
 -- The texts of frames from what the calls answered and from the numbers that the code lays one after the other.
 use Prim.Native.Nat.{ℕ, ◌+◌, ◌≤◌, ◌<◌}
 use native.Mathlib.Numerals.{add-one}
-use mathlib.Core.Path.{◌≡◌, refl, sym, ap, ◌∙◌}
+use mathlib.Core.Path.{◌≡◌, refl, ap}
 use mathlib.Core.List.{List, [], ◌∷◌, ◌++◌, append_assoc}
 use lib.Seq.{drop-cons}
 use lib.ListN.{length, get_or, drop, drop_of_length-le}
+use Rattle.std.specs.Prelude.{Result, Ok, Err}
+use Rattle.refusals.specs.declared.refusal.Refusal.{Refusal}
+use Rattle.refusals.specs.Refusals.{number_of}
 use Rattle.text_rules.specs.Put.{Put}
 use Rattle.text_rules.proofs.Laid.{Still, put_then, still_next, still_end}
 use Rattle.frames_rules.specs.Answers.{up_said, down_said}
 use Rattle.frames_rules.specs.declared.answers.Up.{Up}
 use Rattle.frames_rules.specs.declared.answers.Down.{Down}
 use Rattle.frames_rules.specs.Reading.{read_up, read_down, mb_part}
-use Rattle.console_rules.specs.Texts.{done_text}
+use Rattle.console_rules.specs.Texts.{done_text, answer_text}
 use Rattle.console_rules.specs.Frames.{number_text, numbers_text, values_text, read_text, interrogation_text, reply_text}
 
 -- ---- `search frame` lays the values of a frame that was read, one case of the answer after the other
 
 module _ (msg : List ℕ) {at q : ℕ} {l m : List ℕ} where
-  pub a_reply_is : {d e : Down} → down_said d ≡ read_down msg → d ≡ e → Put (read_text (down_said e) (mb_part msg)) at l m q → Put (reply_text msg) at l m q
+  pub a_reply_is : {d : Result Down Refusal} {e f : Down} → down_said d ≡ read_down msg → d ≡ Ok e → e ≡ f
+      → Put (read_text (down_said (Ok f)) (mb_part msg)) at l m q → Put (reply_text msg) at l m q
   unfolding reply_text
-  a_reply_is e h p = rw (← e, h) p
+  a_reply_is e h k p = rw (← e, h, k) p
 
-  pub an_interrogation : {u e : Up} → up_said u ≡ read_up msg → u ≡ e → Put (read_text (up_said e) (mb_part msg)) at l m q
-      → Put (interrogation_text msg) at l m q
+  pub no_reply : {d : Result Down Refusal} {r : Refusal} → down_said d ≡ read_down msg → d ≡ Err r
+      → ((value : List ℕ) → Put (answer_text (number_of r) value) at l m q) → Put (reply_text msg) at l m q
+  unfolding reply_text read_text
+  no_reply e h p = rw (← e, h) (p _)
+
+  pub an_interrogation : {u : Result Up Refusal} {v w : Up} → up_said u ≡ read_up msg → u ≡ Ok v → v ≡ w
+      → Put (read_text (up_said (Ok w)) (mb_part msg)) at l m q → Put (interrogation_text msg) at l m q
   unfolding interrogation_text
-  an_interrogation e h p = rw (← e, h) p
+  an_interrogation e h k p = rw (← e, h, k) p
+
+  pub no_interrogation : {u : Result Up Refusal} {r : Refusal} → up_said u ≡ read_up msg → u ≡ Err r
+      → ((value : List ℕ) → Put (answer_text (number_of r) value) at l m q) → Put (interrogation_text msg) at l m q
+  unfolding interrogation_text read_text
+  no_interrogation e h p = rw (← e, h) (p _)
 
 -- MA or MB as the call gave it
 pub its_part : (vs : List ℕ) {x y : List ℕ} {at q : ℕ} {l m : List ℕ} → x ≡ y → Put (done_text (values_text vs x)) at l m q
     → Put (done_text (values_text vs y)) at l m q
 its_part vs e p = rw e at p
 
-pub ruleset frame = (a_reply_is, an_interrogation, its_part)
+pub ruleset frame = (a_reply_is, no_reply, an_interrogation, no_interrogation, its_part)
 
 -- ---- numbers laid one after the other: what is left from place i on
 

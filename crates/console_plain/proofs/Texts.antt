@@ -1,35 +1,24 @@
 -- The texts of the console from what was read of a line and from the parts that the code lays one after the other.
+use Rattle.std.specs.Prelude.{Option, Some, None, unwrap_or, is_some, option_map}
 use Prim.Native.Nat.{ℕ, ◌+◌, ◌-◌, ◌≤◌}
 use native.Mathlib.Omega.{arith}
 use mathlib.Core.Path.{◌≡◌, refl, sym, ap, ◌∙◌}
-use mathlib.Core.Bool.{Bool, true, false}
-use mathlib.Core.List.{List}
-use mathlib.Core.Option.{Option, some, none}
+use mathlib.Core.Bool.{Bool}
+use mathlib.Core.List.{List, []}
 use lib.IntN.{ℤ, pos}
 use lib.Seq.{take_at}
 use lib.ListN.{length, take, drop, replicate, length-take, length-replicate, replicate-append-replicate}
-use mir.Syntax.{w32}
-use mir.Val.{SFits, to_z, of_z}
-use mir.ValLaws.{to_z-of_z}
 use Rattle.text_rules.specs.Line.{words_of, within, NthWord}
 use Rattle.text_rules.specs.Put.{laid}
-use Rattle.text_rules.specs.Hex.{bytes_in, hex_answer, filled, HexRead}
+use Rattle.text_rules.specs.Hex.{bytes_in, filled, HexRead}
 use Rattle.text_rules.proofs.Laid.{take_laid, length_laid}
 use Rattle.console_rules.proofs.Short.{bytes_short}
 use Rattle.text_rules.specs.Bases.{number_of}
 use Rattle.text_rules.specs.Signed.{integer_of}
-use Rattle.text_rules.proofs.HexRead.{hex_found, hex_not}
 use Rattle.text_rules.specs.declared.answer.Span.{Span}
-use Rattle.text_rules.specs.declared.answer.Hex.{Hex}
-use Rattle.text_rules.specs.declared.answer.Hex.TheVariants.{Bytes, Not}
-use Rattle.text_rules.specs.declared.answer.Number.{Number}
-use Rattle.text_rules.specs.declared.answer.Number.TheVariants as number
-use Rattle.text_rules.specs.declared.answer.Integer.{Integer}
-use Rattle.text_rules.specs.declared.answer.Integer.TheVariants as integer
 use Rattle.console_rules.specs.declared.names.Sort.{Sort}
-use Rattle.console_rules.specs.declared.names.Sort.TheVariants as sort
-use Rattle.console_rules.specs.Texts.{word, the_number, the_integer, the_bytes, number_at, integer_at, bytes_at, BytesAt}
-use Rattle.console_rules.specs.Reasons.{is_number, is_integer, are_bytes, says}
+use Rattle.console_rules.specs.Texts.{word, number_at, integer_at, bytes_at, BytesAt}
+use Rattle.console_rules.specs.Reasons.{says}
 
 -- ---- read
 
@@ -39,83 +28,34 @@ unfolding within word
 word_of n = n.text
 
 -- the bytes that were read of a word, by what it says
-found_by_is : (w : List ℕ) (o : Option (List ℕ)) {l m : List ℕ} {n : ℕ} → bytes_in w ≡ o → HexRead w l m (Bytes n)
-    → (n ≡ length (the_bytes o)) × (m ≡ laid (the_bytes o) 0 l)
-unfolding the_bytes hex_answer filled
-found_by_is w (some bs) {n = n} e h =
-    let a : Bytes n ≡ Bytes (length bs) = h.answer ∙ ap hex_answer e in
-    let z : n ≡ length bs = cc in
-    (z, h.buffer ∙ rw e)
-found_by_is w none {n = n} e h =
-    let a : Bytes n ≡ Not = h.answer ∙ ap hex_answer e in
-    let z : ◌≡◌ {A = ℕ} 0 1 = cc in
-    absurd (omega arith)
+found_by_is : (o : Option (List ℕ)) {w l m : List ℕ} {r : Option ℕ} → bytes_in w ≡ o → HexRead w l m r
+    → (unwrap_or r 0 ≡ length (unwrap_or o [])) × (m ≡ laid (unwrap_or o []) 0 l)
+unfolding filled laid
+found_by_is (Some bs) e h = (rw (h.answer, e), h.buffer ∙ rw e)
+found_by_is None e h = (rw (h.answer, e), h.buffer ∙ rw e)
 
--- ---- `search reads` tells what a word says from what was read of its span
+-- what the word that a span holds says
 module _ {line : List ℕ} {k : ℕ} {w : Span} (at : NthWord line k w) where
-  module _ {r : Number} (e : r ≡ number_of (take (w.to - w.from) (drop w.from line))) where
-    pub is_number_is : {n : ℕ} → r ≡ number.Is n → n ≡ number_at k (words_of line)
-    unfolding the_number
-    is_number_is h = rw (← word_of at, ← e, h)
+  pub the_number : {n : ℕ} {r : Option ℕ} → r ≡ number_of (take (w.to - w.from) (drop w.from line)) → n ≡ unwrap_or r 0 → n ≡ number_at k (words_of line)
+  the_number e h = rw (← word_of at, ← e) h
 
-    pub no_number : r ≡ number.Not → 0 ≡ number_at k (words_of line)
-    unfolding the_number
-    no_number h = rw (← word_of at, ← e, h)
+  pub the_integer : {z : ℤ} {r : Option ℤ} → r ≡ integer_of (take (w.to - w.from) (drop w.from line)) → z ≡ unwrap_or r (pos 0)
+      → z ≡ integer_at k (words_of line)
+  the_integer e h = rw (← word_of at, ← e) h
 
-  module _ {r : Integer} (e : r ≡ integer_of (take (w.to - w.from) (drop w.from line))) where
-    pub is_integer_is : (z : ℤ) → SFits w32 z → r ≡ integer.Is z → to_z w32 (of_z w32 z) ≡ integer_at k (words_of line)
-    unfolding the_integer
-    is_integer_is z f h = to_z-of_z w32 z f ∙ rw (← word_of at, ← e, h)
+  pub the_bytes : {n : ℕ} {l m : List ℕ} {r : Option ℕ} → HexRead (take (w.to - w.from) (drop w.from line)) l m r → n ≡ unwrap_or r 0
+      → BytesAt k (words_of line) l m n
+  the_bytes e h =
+      let f = found_by_is (bytes_in (word k (words_of line))) refl (rw (word_of at) at e) in
+      record { answer = h ∙ f.0; buffer = f.1 }
 
-    pub no_integer : r ≡ integer.Not → pos 0 ≡ integer_at k (words_of line)
-    unfolding the_integer
-    no_integer h = rw (← word_of at, ← e, h)
-
-  module _ {l m : List ℕ} {a : Hex} (e : HexRead (take (w.to - w.from) (drop w.from line)) l m a) where
-    word_read : HexRead (word k (words_of line)) l m a
-    word_read = rw (word_of at) at e
-
-    pub is_bytes : {n : ℕ} → a ≡ Bytes n → BytesAt k (words_of line) l m n
-    is_bytes h =
-        let f = found_by_is (word k (words_of line)) (bytes_in (word k (words_of line))) refl (rw h at word_read) in
-        record { answer = f.0; buffer = f.1 }
-
-    pub no_bytes : a ≡ Not → BytesAt k (words_of line) l m 0
-    unfolding the_bytes laid
-    no_bytes h = let f = hex_not (rw h at word_read) in record { answer = rw f.0; buffer = rw f.0 f.1 }
-
-pub ruleset reads = (is_number_is, no_number, is_integer_is, no_integer, is_bytes, no_bytes)
-
--- ---- `search told` tells whether a word says what belongs there
-module _ (w : List ℕ) where
-  module _ {r : Number} (e : r ≡ number_of w) where
-    pub told_number : {n : ℕ} → r ≡ number.Is n → true ≡ says sort.Number w
-    unfolding says is_number
-    told_number k = rw (← e, k)
-
-    pub told_none : r ≡ number.Not → false ≡ says sort.Number w
-    unfolding says is_number
-    told_none k = rw (← e, k)
-
-  module _ {r : Integer} (e : r ≡ integer_of w) where
-    pub told_integer : {z : ℤ} → r ≡ integer.Is z → true ≡ says sort.Integer w
-    unfolding says is_integer
-    told_integer k = rw (← e, k)
-
-    pub told_no_integer : r ≡ integer.Not → false ≡ says sort.Integer w
-    unfolding says is_integer
-    told_no_integer k = rw (← e, k)
-
-  module _ {l m : List ℕ} {a : Hex} (e : HexRead w l m a) where
-    pub told_bytes : {n : ℕ} → a ≡ Bytes n → length l ≡ 32 → true ≡ says sort.Bytes w
-    unfolding says are_bytes
-    told_bytes k z = rw (hex_found z (rw k at e)).0
-
-    pub told_other : a ≡ Not → false ≡ says sort.Bytes w
-    unfolding says are_bytes
-    told_other k = rw (hex_not (rw k at e)).0
-
-pub ruleset told = (told_number, told_none, told_integer, told_no_integer, told_bytes, told_other)
+-- a word says bytes where it was read as bytes
+pub says_bytes : (w : List ℕ) {l m : List ℕ} {r : Option ℕ} → HexRead w l m r → is_some r ≡ is_some (bytes_in w)
+says_bytes w h = by_answer (bytes_in w) h.answer
+  where
+    by_answer : {r : Option ℕ} (o : Option (List ℕ)) → r ≡ option_map length o → is_some r ≡ is_some o
+    by_answer (Some bs) e = rw e
+    by_answer None e = rw e
 
 -- by the sort
 pub sort_says : (w : List ℕ) {s t : Sort} {r : Bool} → s ≡ t → r ≡ says t w → r ≡ says s w

@@ -1,11 +1,13 @@
 // The text of an answer, laid at the front of a lent buffer.
+ghost use Rattle.std.specs.Prelude.{ℕ, List};
 ghost use Rattle.text_rules.specs.Put.{Put};
 ghost use Rattle.text_rules.specs.Hex.{hex_in};
+ghost use Rattle.refusals.specs.Refusals.{number_of};
 ghost use Rattle.parity_rules.specs.Answers.{reckoned_said};
-ghost use Rattle.console_rules.specs.Texts.{done_text, refusal_text};
+ghost use Rattle.console_rules.specs.Texts.{done_text, refusal_text, answer_text};
 ghost use Rattle.console_rules.specs.Parity.{reckoned_text};
 
-use parity::Reckoned;
+use refusals::Refusal;
 
 // A refusal's number alone.
 pub fn put_refusal(out: &mut [u8], n: u32) -> usize
@@ -13,6 +15,13 @@ pub fn put_refusal(out: &mut [u8], n: u32) -> usize
 {
     let end = text::put_decimal(out, 0, n);
     text::put_byte(out, end, 10)
+}
+
+// The number of a call that is refused, whatever it would have answered.
+pub(crate) fn put_refused(out: &mut [u8], r: Refusal) -> usize
+    ensures { (value : List ℕ) → Put (answer_text (number_of r) value) 0 out.old out.new result }
+{
+    put_refusal(out, u8::from(r) as u32)
 }
 
 // 0 and a number of 24 bits.
@@ -25,12 +34,11 @@ fn put_six_digits(out: &mut [u8], n: u32) -> usize
 }
 
 // A reckoned number, or its refusal.
-pub(crate) fn put_reckoned(out: &mut [u8], a: Reckoned) -> usize
+pub(crate) fn put_reckoned(out: &mut [u8], a: Result<u32, Refusal>) -> usize
     ensures { Put (reckoned_text (reckoned_said a)) 0 out.old out.new result }
 {
     match a {
-        Reckoned::Is(n) => put_six_digits(out, n),
-        Reckoned::Length => put_refusal(out, 1),
-        Reckoned::Range => put_refusal(out, 2),
+        Ok(n) => put_six_digits(out, n),
+        Err(r) => put_refused(out, r),
     }
 }

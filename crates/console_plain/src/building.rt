@@ -4,23 +4,22 @@ ghost use Rattle.text_rules.specs.Line.{words_of};
 ghost use Rattle.frames_rules.specs.Answers.{built_said};
 ghost use Rattle.console_rules.specs.Building.{built_text, selective_text, build_text, all_call_text};
 
-use crate::answers::put_refusal;
+use crate::answers::put_refused;
 use crate::values::is_long;
 use crate::words::{bytes_at, number_at};
-use frames::Built;
+use refusals::Refusal;
 
 // The frame that was built, or the refusal.
-fn put_built(out: &mut [u8], b: Built, frame: &[u8]) -> usize
+fn put_built(out: &mut [u8], b: Result<(), Refusal>, frame: &[u8]) -> usize
     ensures { Put (built_text (built_said b frame.now)) 0 out.old out.new result }
 {
     match b {
-        Built::Done => {
+        Ok(()) => {
             let value = text::put_bytes(out, 0, b"0 ");
             let end = text::put_hex(out, value, frame);
             text::put_byte(out, end, 10)
         }
-        Built::Length => put_refusal(out, 1),
-        Built::Range => put_refusal(out, 2),
+        Err(r) => put_refused(out, r),
     }
 }
 

@@ -4,21 +4,20 @@ ghost use Rattle.text_rules.specs.Line.{words_of};
 ghost use Rattle.frames_rules.specs.Answers.{code_said};
 ghost use Rattle.console_rules.specs.Frames.{whose_text, code_text};
 
-use crate::answers::put_refusal;
+use crate::answers::put_refused;
 use crate::words::{bytes_at, number_at};
 use frames::Code;
+use refusals::Refusal;
 
 // Whose code it is, or the refusal.
-fn put_whose(out: &mut [u8], a: Code) -> usize
+fn put_whose(out: &mut [u8], a: Result<Code, Refusal>) -> usize
     ensures { Put (whose_text (code_said a)) 0 out.old out.new result }
 {
     match a {
-        Code::Own => text::put_bytes(out, 0, b"0 own\n"),
-        Code::Matching => text::put_bytes(out, 0, b"0 matching\n"),
-        Code::Other => text::put_bytes(out, 0, b"0 other\n"),
-        Code::Length => put_refusal(out, 1),
-        Code::Range => put_refusal(out, 2),
-        Code::Format => put_refusal(out, 14),
+        Ok(Code::Own) => text::put_bytes(out, 0, b"0 own\n"),
+        Ok(Code::Matching) => text::put_bytes(out, 0, b"0 matching\n"),
+        Ok(Code::Other) => text::put_bytes(out, 0, b"0 other\n"),
+        Err(r) => put_refused(out, r),
     }
 }
 

@@ -5,18 +5,18 @@ ghost use Rattle.text_rules.specs.Line.{words_of};
 ghost use Rattle.parity_rules.specs.Answers.{buffers, fix_said};
 ghost use Rattle.console_rules.specs.Parity.{corrected_text, fixed_text, correct_text};
 
-use crate::answers::put_refusal;
+use crate::answers::put_refused;
 use crate::words::{bytes_at, number_at};
-use parity::Fix;
 use places::put_places;
+use refusals::Refusal;
 
 // The corrected message, its flips and their places, or the refusal.
-fn put_corrected(out: &mut [u8], f: Fix, fixed: &[u8], places: &[u8]) -> usize
+fn put_corrected(out: &mut [u8], f: Result<u32, Refusal>, fixed: &[u8], places: &[u8]) -> usize
     requires { length places.now ≤ 124 }
     ensures { Put (corrected_text (fix_said f (buffers fixed.now places.now))) 0 out.old out.new result }
 {
     match f {
-        Fix::Flips(n) => {
+        Ok(n) => {
             let value = text::put_bytes(out, 0, b"0 ");
             let gap = text::put_hex(out, value, fixed);
             let flips = text::put_byte(out, gap, 32);
@@ -24,11 +24,7 @@ fn put_corrected(out: &mut [u8], f: Fix, fixed: &[u8], places: &[u8]) -> usize
             let end = put_places(out, behind, places);
             text::put_byte(out, end, 10)
         }
-        Fix::Length => put_refusal(out, 1),
-        Fix::Range => put_refusal(out, 2),
-        Fix::Marks => put_refusal(out, 11),
-        Fix::NoMatch => put_refusal(out, 12),
-        Fix::Doubt => put_refusal(out, 13),
+        Err(r) => put_refused(out, r),
     }
 }
 

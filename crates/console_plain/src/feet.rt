@@ -7,7 +7,7 @@ ghost use Rattle.console_rules.specs.Feet.{feet_text, written_text, ac_text};
 
 use crate::answers::put_refusal;
 use crate::words::{integer_at, number_at};
-use altitude::Written;
+use refusals::Refusal;
 
 // The altitude that a code says.
 pub(crate) fn put_feet(line: &[u8], out: &mut [u8]) -> usize
@@ -26,12 +26,12 @@ fn put_code_of(out: &mut [u8], ac: u32) -> usize
 }
 
 // 0 and a code, or the refusal's number.
-fn put_written(out: &mut [u8], w: Written) -> usize
+fn put_written(out: &mut [u8], w: Result<u32, Refusal>) -> usize
     ensures { Put (written_text (written_said w)) 0 out.old out.new result }
 {
     match w {
-        Written::Code(ac) => put_code_of(out, ac),
-        Written::NoCode => put_refusal(out, altitude::written_number(w)),
+        Ok(ac) => put_code_of(out, ac),
+        Err(refusal) => put_refusal(out, u8::from(refusal) as u32),
     }
 }
 

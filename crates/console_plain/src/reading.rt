@@ -3,7 +3,7 @@ ghost use Rattle.text_rules.specs.Put.{Put};
 ghost use Rattle.text_rules.specs.Line.{words_of};
 ghost use Rattle.console_rules.specs.Frames.{interrogation_text, reply_text, up_text, down_text};
 
-use crate::answers::put_refusal;
+use crate::answers::put_refused;
 use crate::values::{put_eleven, put_seven};
 use crate::words::bytes_at;
 use frames::{Down, Up};
@@ -13,15 +13,17 @@ fn put_reply(out: &mut [u8], msg: &[u8]) -> usize
     ensures { Put (reply_text msg.now) 0 out.old out.new result }
 {
     match frames::read_down(msg) {
-        Down::Surveillance {
-            df,
-            fs,
-            dr,
-            um,
-            value,
-            mb: _,
-            remainder,
-        } => put_seven(
+        Ok(
+            Down::Surveillance {
+                df,
+                fs,
+                dr,
+                um,
+                value,
+                mb: _,
+                remainder,
+            },
+        ) => put_seven(
             out,
             df as u32,
             fs as u32,
@@ -31,16 +33,17 @@ fn put_reply(out: &mut [u8], msg: &[u8]) -> usize
             frames::mb_part(msg),
             remainder,
         ),
-        Down::AllCall {
-            ca,
-            address,
-            remainder,
-        } => {
+        Ok(
+            Down::AllCall {
+                ca,
+                address,
+                remainder,
+            },
+        ) => {
             let numbers = [11, ca as u32, address];
             put_eleven(out, &numbers, remainder)
         }
-        Down::Length => put_refusal(out, 1),
-        Down::Format => put_refusal(out, 14),
+        Err(r) => put_refused(out, r),
     }
 }
 
@@ -58,15 +61,17 @@ fn put_interrogation(out: &mut [u8], msg: &[u8]) -> usize
     ensures { Put (interrogation_text msg.now) 0 out.old out.new result }
 {
     match frames::read_up(msg) {
-        Up::Selective {
-            uf,
-            pc,
-            rr,
-            di,
-            sd,
-            ma: _,
-            remainder,
-        } => put_seven(
+        Ok(
+            Up::Selective {
+                uf,
+                pc,
+                rr,
+                di,
+                sd,
+                ma: _,
+                remainder,
+            },
+        ) => put_seven(
             out,
             uf as u32,
             pc as u32,
@@ -76,17 +81,18 @@ fn put_interrogation(out: &mut [u8], msg: &[u8]) -> usize
             frames::mb_part(msg),
             remainder,
         ),
-        Up::AllCall {
-            pr,
-            ic,
-            cl,
-            remainder,
-        } => {
+        Ok(
+            Up::AllCall {
+                pr,
+                ic,
+                cl,
+                remainder,
+            },
+        ) => {
             let numbers = [11, pr as u32, ic as u32, cl as u32];
             put_eleven(out, &numbers, remainder)
         }
-        Up::Length => put_refusal(out, 1),
-        Up::Format => put_refusal(out, 14),
+        Err(r) => put_refused(out, r),
     }
 }
 

@@ -22,10 +22,8 @@ pub(crate) fn put_numbers(out: &mut [u8], at: usize, numbers: &[u32]) -> usize
         return out.len();
     }
     let mut next = at;
-    let mut i: usize = 0;
-    while i < numbers.len() {
-        next = put_number(out, next, numbers[i]);
-        i += 1;
+    for &n in numbers {
+        next = put_number(out, next, n);
     }
     next
 }

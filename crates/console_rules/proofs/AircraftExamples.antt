@@ -4,6 +4,7 @@ use Prim.Native.String.{String}
 use mathlib.Core.Path.{◌≡◌, refl}
 use mathlib.Core.Bool.{false}
 use mathlib.Core.List.{List, [], ◌∷◌, ◌++◌}
+use Rattle.std.specs.Prelude.{is_some}
 use Rattle.lists.specs.Lists.{over}
 use Rattle.lists.specs.Checks.{checked}
 use Rattle.text_rules.specs.Plain.{plain}
@@ -19,13 +20,13 @@ use Rattle.frames_rules.specs.Building.{selective_ranged, reply_ranged, all_call
 use Rattle.frames_rules.specs.Interrogations.{up_of}
 use Rattle.frames_rules.specs.Shared.{code_for, drawn}
 use Rattle.model_rules.specs.State.{started, messages_with, messages_after}
-use Rattle.model_rules.specs.Lapse.{timer_after, timers_after, lapse}
+use Rattle.model_rules.specs.Lapse.{timers_after, lapse}
 use Rattle.model_rules.specs.Lockout.{started_by_los, started_by_lss, command_of_sd, commanded, lockout, locked_to}
 use Rattle.model_rules.specs.CommB.{reserve, closeout}
 use Rattle.model_rules.specs.Replies.{sending, respond, draws_below, answers, answer_all_call}
 use Rattle.model_rules.specs.Calls.{newborn, make_ranged, making, queuing, steps, interrogated, laid_over, selective_comes, all_call_comes, comes, taking}
 use Rattle.console_rules.specs.Texts.{done_text, refusal_text, answer_text}
-use Rattle.console_rules.specs.Aircraft.{unmade, made_said, model_said, queued_said, queue_said, sent_text, took_said, send_said, holder_text}
+use Rattle.console_rules.specs.Aircraft.{unmade, transponder_of, made_said, model_said, queued_said, queue_said, sent_text, took_said, send_said, holder_text}
 use Rattle.console_rules.specs.Aircraft.{timer_text, lock_text, locks_text, state_text, state_said}
 use Rattle.console_rules.specs.Explain.{meanings, meaning_text, explain_text}
 use Rattle.console_rules.specs.Reasons.{reason_text}
@@ -56,9 +57,9 @@ abbrev pub Printed : List Told → Type 0
 Printed ts = console_text (lines ts) ≡ texts ts
 
 -- before any model there is no aircraft, and what stands in its place is that of a making that is refused
-no_aircraft : unmade ≡ record { made = false; transponder = (making 0 0 0 0 0).transponder }
+no_aircraft : (is_some unmade ≡ false) × (transponder_of unmade ≡ (making 0 0 0 0 0).transponder)
 unfolding checked unmade newborn make_ranged making
-no_aircraft = refl
+no_aircraft = (refl, refl)
 
 -- no aircraft before a model, nor after one that is refused
 abbrev begun : List Told
@@ -132,9 +133,10 @@ unfolding Reading console_text lines_text lines_of newline done_text meanings me
 quit = refl
 
 runs_printed : Printed begun × Printed locking × Printed codes × Printed delivery × Printed refusals
-unfolding Reading checked console_text lines_text lines_of newline answer_text done_text refusal_text decimal decimal_in hex_in hex_of hex_digit bits shift_in divide
-    remainder_of low_bits times overlay_of selective_ranged reply_ranged all_call_reply_ranged a_reply an_all_call_reply replying all_call_replying head_of mid_of reply_head
-    all_call_reply_head front sealed code_for drawn over started messages_with messages_after timer_after timers_after lapse started_by_los started_by_lss command_of_sd
+unfolding Reading checked console_text lines_text lines_of newline answer_text done_text refusal_text decimal decimal_in hex_in hex_of hex_digit bits
+    shift_in divide remainder_of low_bits times overlay_of selective_ranged reply_ranged all_call_reply_ranged a_reply an_all_call_reply replying
+    all_call_replying head_of mid_of reply_head all_call_reply_head front sealed code_for drawn over started messages_with messages_after timers_after
+    lapse started_by_los started_by_lss command_of_sd
     commanded lockout locked_to reserve closeout sending respond draws_below answers answer_all_call newborn make_ranged making queuing steps interrogated
     laid_over taking unmade made_said model_said queued_said queue_said sent_text took_said send_said holder_text timer_text lock_text locks_text state_text
     state_said up_of selective_comes all_call_comes comes reason_text

@@ -24,7 +24,7 @@ use Rattle.frames_rules.specs.Codes.{whose, code_of}
 use Rattle.altitude_rules.specs.Code.{eleven, feet_by_25, gray_value, eight, five_hundreds, group, hundreds, feet_by_100, form_of, altitude}
 use Rattle.altitude_rules.specs.WayBack.{raised, reaches, code_by_25, code_of_bits, code_by_100, code_at, way_back}
 use Rattle.console_rules.specs.FeetLines as feet
-use Rattle.console_rules.specs.Texts.{word, the_number, the_integer, the_bytes, number_at, bytes_at, done_text, refusal_text, answer_text}
+use Rattle.console_rules.specs.Texts.{word, number_at, bytes_at, done_text, refusal_text, answer_text}
 use Rattle.console_rules.specs.Parity.{reckoned_text, corrected_text, remainder_text, overlay_text, fixed_text, correct_text}
 use Rattle.console_rules.specs.Building.{built_text, selective_text, build_text, all_call_text}
 use Rattle.console_rules.specs.Frames.{number_text, fields_text, end_text, numbers_text, values_text, read_text, reply_text, interrogation_text, up_text}
@@ -35,7 +35,7 @@ use Rattle.console_rules.specs.PlainLines.{plain_text}
 use Rattle.console_rules.specs.Station.{station_spoken}
 use Rattle.console_rules.specs.Explain.{meanings, meaning_text, explain_text}
 use Rattle.console_rules.specs.Names.{table, row_in, row_of}
-use Rattle.console_rules.specs.Reasons.{sort_at, is_number, is_integer, are_bytes, says, unfit, fault_behind, fault, word_reason, reason_of, is_read, reason_text}
+use Rattle.console_rules.specs.Reasons.{sort_at, says, unfit, fault_behind, fault, by_word, judged, reading, reason_text}
 use Rattle.console_rules.specs.Console.{call_told, judged_told, row_told, command_told, comment, words_told, line_told, line_text, begun}
 
 -- what a line prints before any model, both as quoted texts
@@ -50,15 +50,15 @@ words-read :
     × (bytes_at 1 (words_of (plain "queue 20466D72D75DA0")) ≡ 0x20 ∷ 0x46 ∷ 0x6D ∷ 0x72 ∷ 0xD7 ∷ 0x5D ∷ 0xA0 ∷ [])
     × (bytes_at 3 (words_of (plain "send 30 0 200110401E9EB5")) ≡ 0x20 ∷ 0x01 ∷ 0x10 ∷ 0x40 ∷ 0x1E ∷ 0x9E ∷ 0xB5 ∷ [])
     × (bytes_at 1 (words_of (plain "queue")) ≡ [])
-unfolding word words_of parts full grown blank same_as number_in all_digits value_after bytes_in is_hex all_hex hex_value pairs is_digit between the_number the_bytes
+unfolding word words_of parts full grown blank same_as number_in all_digits value_after bytes_in is_hex all_hex hex_value pairs is_digit between
     number_of hex_number hex_after
 words-read = (refl, refl, refl, refl, refl, refl)
 
 -- how a line is read, for every claim below: its words, its row, the reasons not to read it, its numbers and bytes
 unfoldable pub Reading : Type 0
 unfolding line_told words_told command_told row_told judged_told call_told plain_text flight_said station_spoken comment row_of row_in table word words_of parts
-    full grown blank same_as the_number the_bytes number_of hex_number hex_after number_in all_digits value_after bytes_in is_hex all_hex hex_value pairs is_digit
-    between sort_at is_number is_integer are_bytes says unfit fault_behind fault word_reason reason_of is_read unmade the_integer integer_of upward downward
+    full grown blank same_as number_of hex_number hex_after number_in all_digits value_after bytes_in is_hex all_hex hex_value pairs is_digit
+    between sort_at says unfit fault_behind fault by_word judged reading unmade integer_of upward downward
 Reading = Unit {0}
 
 -- ---- parity: published frames, the starred corrections and overlays of document 01, lengths and numbers out of their ranges
@@ -75,7 +75,8 @@ parity-lines :
     × Prints "correct 8000000200000000000000000002 8000000200000000000000000002 0 2" "11\n"
     × Prints "correct 0000000000000000000000000000 0000000000000000000000000002 2 5" "0 0000000000000000000000000002 1 111\n"
     × Prints "correct 0000000000000000000000000000 8000000200000000000000000002 2 5" "0 0000000000000000000000000002 1 111\n"
-unfolding Reading filter checked remainder_answer uplink_overlay answer_text done_text refusal_text decimal decimal_in hex_in hex_of hex_digit bits shift_in divide
+unfolding Reading filter checked remainder_answer uplink_overlay answer_text done_text refusal_text decimal decimal_in hex_in hex_of hex_digit bits shift_in
+    divide
     remainder_of low_bits times overlay_of syndrome size_of subsets xor_of matching flipped correction reckoned_text corrected_text remainder_text overlay_text
     fixed_text correct_text places_from numbers_behind
 parity-lines = (refl, refl, refl, refl, refl, refl, refl, refl, refl, refl, refl, refl)
@@ -88,7 +89,8 @@ building-lines :
     × Prints "build 4 0 0 0 0 000000000000 1" "1\n"
     × Prints "allcall 1 9 2" "0 58CA00005FB57F\n"
     × Prints "allcall 16 0 0" "2\n"
-unfolding Reading checked answer_text done_text refusal_text decimal decimal_in hex_in hex_of hex_digit bits shift_in divide remainder_of low_bits times overlay_of
+unfolding Reading checked answer_text done_text refusal_text decimal decimal_in hex_in hex_of hex_digit bits shift_in divide remainder_of low_bits times
+    overlay_of
     selective_ranged all_call_ranged selective all_call building all_calling head_of mid_of selective_head all_call_head front sealed built_text selective_text
     build_text all_call_text
 building-lines = (refl, refl, refl, refl, refl, refl)
@@ -108,7 +110,8 @@ frame-lines :
     × Prints "code 5D484FDEA248E5 1 6 0" "0 other\n"
     × Prints "code 5D484FDEA248F5 1 6 2" "2\n"
 unfolding Reading checked answer_text done_text refusal_text decimal decimal_in hex_in hex_of hex_digit bits shift_in divide remainder_of head_of mid_of read_as
-    selective_read all_call_read surveillance_read all_call_reply_read whose code_of number_text fields_text end_text numbers_text values_text read_text reply_text
+    selective_read all_call_read surveillance_read all_call_reply_read whose code_of number_text fields_text end_text numbers_text values_text read_text
+    reply_text
     interrogation_text up_text down_text code_word whose_text code_text
 frame-lines = (refl, refl, refl, refl, refl, refl, refl, refl, refl, refl, refl, refl)
 
@@ -145,7 +148,8 @@ ac-lines :
     × Prints "ac -0x10" "? word 1 is no number\n"
     × Prints "ac -" "? word 1 is no number\n"
     × Prints "feet -16" "? word 1 is no number\n"
-unfolding Reading checked answer_text done_text refusal_text decimal decimal_in hundreds raised reaches code_by_25 code_of_bits code_by_100 code_at way_back written_text
+unfolding Reading checked answer_text done_text refusal_text decimal decimal_in hundreds raised reaches code_by_25 code_of_bits code_by_100 code_at way_back
+    written_text
     ac_text reason_text
 ac-lines = (refl, refl, refl, refl, refl, refl, refl, refl, refl, refl, refl, refl, refl, refl, refl, refl, refl, refl)
 

@@ -1,5 +1,6 @@
 -- The whole run of feet: its lines one after the other are the text of the definition, and each fits a buffer of 32 bytes.
-use Prim.Native.Nat.{ℕ, ◌+◌, ◌-◌, ◌*◌, ◌^◌, ◌≤◌, ◌<◌}
+use Rattle.std.specs.Prelude.{Some, None, Err}
+use Prim.Native.Nat.{ℕ, ◌+◌, ◌*◌, ◌^◌, ◌≤◌, ◌<◌}
 use native.Mathlib.Omega.{arith}
 use mathlib.Core.Path.{◌≡◌, refl, sym, ap, ◌∙◌}
 use mathlib.Core.Bool.{Bool, true, false, ◌&&◌}
@@ -19,10 +20,9 @@ use Rattle.text_rules.proofs.Decimal.{decimal_length, decimal_fits}
 use Rattle.text_rules.proofs.Laid.{read_off}
 use Rattle.text_rules.proofs.Pieces as pieces
 use Rattle.text_rules.proofs.Signs.{signed_fits}
-use Rattle.text_rules.specs.declared.answer.Number.TheVariants.{Is, Not}
-use Rattle.altitude_rules.specs.declared.code.Altitude.{Altitude}
-use Rattle.altitude_rules.specs.declared.code.Altitude.TheVariants.{Feet, None, Metric, Range, Illegal}
-use Rattle.altitude_rules.specs.Code.{Form, eleven, five_hundreds, group, hundreds, feet_by_25, feet_by_100, form_of, read_as, altitude, altitude_number}
+use Rattle.refusals.specs.declared.refusal.Refusal.TheVariants as refusal
+use Rattle.refusals.specs.Refusals.{number_given}
+use Rattle.altitude_rules.specs.Code.{Form, eleven, five_hundreds, group, hundreds, feet_by_25, feet_by_100, form_of, read_as, altitude}
 use Rattle.altitude_rules.specs.Code.Form.{all_zero, metric, by25, by100, illegal}
 use Rattle.console_rules.specs.FeetLines.{no_code, value_text, answer_text, code_text, number_text, words_text, line_text, feet_text}
 use Rattle.altitude_rules.proofs.Reckoned.{eleven_lt, five_lt, hundreds_le}
@@ -43,30 +43,31 @@ value_short by100 ac =
     simp length-append (omega (arith, signed_fits (500 * five_hundreds ac + 100 * hundreds (five_hundreds ac) (group ac)) 1300 (omega arith) (omega arith)))
 value_short illegal ac = omega arith
 
-said_short : (t : Bool) (ac : ℕ) → length (value_text (pick t Range (read_as (form_of ac) ac))) ≤ 13
+said_short : (t : Bool) (ac : ℕ) → length (value_text (pick t (Err refusal.Range) (read_as (form_of ac) ac))) ≤ 13
 unfolding value_text
 said_short true ac = omega arith
 said_short false ac = value_short (form_of ac) ac
 
 -- an answer's number takes at most two digits
-number_short : (a : Altitude) → length (decimal (altitude_number a)) ≤ 2
-number_short (Feet z) = decimal_length 1 0 (omega arith)
-number_short None = decimal_length 1 0 (omega arith)
-number_short Metric = decimal_length 1 0 (omega arith)
-number_short Range = decimal_length 1 2 (omega arith)
-number_short Illegal = decimal_length 1 18 (omega arith)
+number_short : (t : Bool) (f : Form) (ac : ℕ) → length (decimal (number_given (pick t (Err refusal.Range) (read_as f ac)))) ≤ 2
+number_short true f ac = decimal_length 1 2 (omega arith)
+number_short false all_zero ac = decimal_length 1 0 (omega arith)
+number_short false metric ac = decimal_length 1 0 (omega arith)
+number_short false by25 ac = decimal_length 1 0 (omega arith)
+number_short false by100 ac = decimal_length 1 0 (omega arith)
+number_short false illegal ac = decimal_length 1 18 (omega arith)
 
 -- an answer takes at most 15 bytes, whatever the code
 pub answer_short : (ac : ℕ) → length (answer_text (altitude ac)) ≤ 15
 unfolding answer_text altitude
-answer_short ac = simp length-append (omega (arith, number_short (altitude ac), said_short (ltb 8191 ac) ac))
+answer_short ac = simp length-append (omega (arith, number_short (ltb 8191 ac) (form_of ac) ac, said_short (ltb 8191 ac) ac))
 
 code_short : (ac : ℕ) → ac < 2 ^ 32 → length (code_text ac) ≤ 26
 unfolding code_text
 code_short ac h = simp length-append (omega (arith, decimal_fits ac h, answer_short ac))
 
 read_short : (w : List ℕ) (t : Bool) → (ltb 0 (length w) && leb (length w) 9 && all_digits w && ltb (value_after 0 w) (2 ^ 32)) ≡ t
-    → length (number_text (pick t (Is (value_after 0 w)) Not)) ≤ 32
+    → length (number_text (pick t (Some (value_after 0 w)) None)) ≤ 32
 unfolding number_text
 read_short w true e =
     let h = ltb-true (value_after 0 w) (2 ^ 32) (and_right (ltb 0 (length w) && leb (length w) 9 && all_digits w) (ltb (value_after 0 w) (2 ^ 32)) e) in

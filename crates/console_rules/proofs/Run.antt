@@ -1,10 +1,9 @@
 -- The whole run of the console: each line's text stands whole in the buffer, and what a run prints is the definition's text, however the input comes.
-use Prim.Native.Nat.{ℕ, suc, ◌≤◌}
+use Prim.Native.Nat.{ℕ, ◌≤◌}
 use native.Mathlib.Omega.{arith}
 use mathlib.Core.Path.{◌≡◌, refl, sym, ap, ◌∙◌}
 use mathlib.Core.Bool.{Bool, true, false}
 use mathlib.Core.List.{List, [], ◌∷◌, ◌++◌}
-use lib.Dec.{ltb}
 use lib.ListN.{length, take, replicate, length-take}
 use lib.Seq.{take_all}
 use borrow.Author.Tests.{ltb-true, ltb-false, lt-ltb}
@@ -14,15 +13,15 @@ use Rattle.text_rules.specs.Pieces.{together}
 use Rattle.text_rules.proofs.Laid.{read_off}
 use Rattle.text_rules.proofs.Pieces as pieces
 use Rattle.console_rules.specs.declared.state.Bench.{Bench}
-use Rattle.console_rules.specs.declared.state.Answered.{Answered}
 use Rattle.console_rules.specs.Texts.{room}
 use Rattle.console_rules.specs.Reasons.{too_long, is_too_long}
 use Rattle.console_rules.specs.FeetLines as feet
 use Rattle.console_rules.specs.Console.{Told, Answers, telling, words_told, line_told, line_text, line_leaves, lines_text, begun, console_text}
 
 -- with so much room lent, what the call leaves at the buffer's front is the whole text of the line
-pub line_stands : (b : Bench) (line : List ℕ) {before after : List ℕ} {r : Answered} → Answers (line_told b line) before after r → room ≤ length before
-    → take r.size after ≡ line_text b line
+pub line_stands : (b : Bench) (line : List ℕ) {before after : List ℕ} {left : Bench} {size : ℕ} → Answers (line_told b line) before after left size
+    → room ≤ length before
+    → take size after ≡ line_text b line
 line_stands b line p h = read_off p.text_put (omega (arith, p.short))
 
 -- ---- of a line that is too long 1001 bytes say as much as all of them

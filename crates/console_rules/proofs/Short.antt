@@ -1,10 +1,10 @@
 -- The text of every line without a state fits 512 bytes.
+use Rattle.std.specs.Prelude.{Option, Some, None, unwrap_or}
 use Prim.Native.Nat.{ℕ, zero, suc, ◌≤◌, ◌<◌}
 use native.Mathlib.Omega.{arith}
 use mathlib.Core.Path.{◌≡◌, refl}
 use mathlib.Core.Bool.{Bool, true, false}
 use mathlib.Core.List.{List, [], ◌∷◌, ◌++◌}
-use mathlib.Core.Option.{Option, some, none}
 use lib.Dec.{eqb, ltb}
 use lib.IntN.{ℤ}
 use lib.ListN.{length, get_or, take, drop, replicate, length-append, length-take, length-replicate}
@@ -40,7 +40,7 @@ use Rattle.frames_rules.specs.Frames.{front, sealed, framed}
 use Rattle.frames_rules.specs.Building.{selective, all_call, building_checks, building, all_calling_checks, all_calling}
 use Rattle.frames_rules.specs.Codes.{code_of_checks, code_of}
 use Rattle.frames_rules.specs.Reading.{format_of, read_checks, read_as, all_call_read, selective_read, all_call_reply_read, surveillance_read, mb_part}
-use Rattle.console_rules.specs.Texts.{word, the_bytes, bytes_at, done_text, refusal_text, answer_text}
+use Rattle.console_rules.specs.Texts.{word, bytes_at, done_text, refusal_text, answer_text}
 use Rattle.console_rules.specs.Parity.{reckoned_text, corrected_text, remainder_text, overlay_text, lent_for, fixed_text, correct_text}
 use Rattle.console_rules.specs.Building.{built_text, selective_text, build_text, all_call_text}
 use Rattle.console_rules.specs.Frames.{number_text, numbers_text, fields_text, end_text, values_text, read_text, interrogation_text, reply_text, up_text}
@@ -61,10 +61,9 @@ either_fits true a b h k = h
 either_fits false a b h k = k
 
 -- a word says at most 32 bytes
-bytes_by : (w : List ℕ) (o : Option (List ℕ)) → bytes_in w ≡ o → length (the_bytes o) ≤ 32
-unfolding the_bytes
-bytes_by w (some bs) e = bytes_fit w bs e
-bytes_by w none e = omega arith
+bytes_by : (w : List ℕ) (o : Option (List ℕ)) → bytes_in w ≡ o → length (unwrap_or o []) ≤ 32
+bytes_by w (Some bs) e = bytes_fit w bs e
+bytes_by w None e = omega arith
 
 pub bytes_short : (k : ℕ) (ws : List (List ℕ)) → length (bytes_at k ws) ≤ 32
 bytes_short k ws = bytes_by (word k ws) (bytes_in (word k ws)) refl

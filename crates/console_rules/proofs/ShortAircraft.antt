@@ -5,11 +5,10 @@ use mathlib.Core.Path.{◌≡◌}
 use mathlib.Core.List.{List, [], ◌∷◌}
 use lib.Dec.{ltb}
 use lib.ListN.{length, length-append}
+use Rattle.std.specs.Prelude.{Option}
 use Rattle.text_rules.proofs.Decimal.{decimal_length, decimal_fits}
 use Rattle.text_rules.proofs.HexMade.{hex_of_length}
 use Rattle.console_rules.specs.Texts.{done_text, refusal_text}
-use Rattle.model_rules.specs.declared.state.Lock.{Lock}
-use Rattle.model_rules.specs.declared.state.Timer.{Timer}
 use Rattle.model_rules.specs.declared.state.Holder.{Holder}
 use Rattle.model_rules.specs.Lockout.{locks}
 use Rattle.console_rules.proofs.Short.{either_fits}
@@ -33,18 +32,18 @@ timer_fits k h =
     (simp length-append (omega (arith, decimal_length 1 k (omega arith))))
     (simp length-append (omega (arith, decimal_length 1 (k - 15) (omega arith))))
 
-lock_fits : (k : ℕ) (l : Lock) → k < 79 → length (lock_text k l) ≤ 5
+lock_fits : (k : ℕ) (l : Option ℕ) → k < 79 → length (lock_text k l) ≤ 5
 unfolding lock_text
 lock_fits k l h = either_fits (locks l) _ _ (omega (arith, timer_fits k h)) (omega arith)
 
-locks_fit : (k : ℕ) (ts : List Timer) → k + length ts ≤ 79 → length (locks_text k ts) ≤ 5 * length ts
+locks_fit : (k : ℕ) (ts : List (Option ℕ)) → k + length ts ≤ 79 → length (locks_text k ts) ≤ 5 * length ts
 unfolding locks_text
 locks_fit k [] h = omega arith
-locks_fit k (t ∷ ts) h = simp length-append (omega (arith, lock_fits k t.lock (omega arith), locks_fit (suc k) ts (omega arith)))
+locks_fit k (t ∷ ts) h = simp length-append (omega (arith, lock_fits k t (omega arith), locks_fit (suc k) ts (omega arith)))
 
 -- the longest line: 79 locked codes
-pub shown_fits : (time : ℕ) (h : Holder) (n : ℕ) (ts : List Timer) → time < 4294967296 → length (holder_text h) ≤ 3 → n < 4294967296 → length ts ≡ 79
-    → length (shown_text time h n ts) ≤ 512
+pub shown_fits : (time : ℕ) (h : Option Holder) (n : ℕ) (ts : List (Option ℕ)) → time < 4294967296 → length (holder_text h) ≤ 3
+    → n < 4294967296 → length ts ≡ 79 → length (shown_text time h n ts) ≤ 512
 unfolding done_text
 shown_fits time h n ts k a b e =
     simp length-append (omega (arith, decimal_fits time k, a, decimal_fits n b, locks_fit 0 ts (omega arith)))

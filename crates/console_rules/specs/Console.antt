@@ -1,5 +1,5 @@
 -- The console: what a line prints and the bench that it leaves, by its first word, and the text of a whole run.
-use Rattle.std.specs.Prelude.{ℕ, ◌≤◌, ◌≡◌, Bool, true, false, List, [], ◌∷◌, ◌++◌, eqb, length}
+use Rattle.std.specs.Prelude.{ℕ, ◌≤◌, ◌≡◌, Bool, true, false, List, [], ◌∷◌, ◌++◌, eqb, length, Option, Result, Ok, Err, is_some}
 use Rattle.lists.specs.Lists.{pick}
 use Rattle.text_rules.specs.Put.{Put}
 use Rattle.text_rules.specs.Line.{lines_of, words_of}
@@ -7,25 +7,24 @@ use Rattle.station_rules.specs.State.{before_setup}
 use Rattle.console_rules.specs.Texts.{word, room}
 use Rattle.console_rules.specs.PlainLines.{plain_text}
 use Rattle.console_rules.specs.declared.state.Bench.{Bench}
-use Rattle.console_rules.specs.declared.state.Answered.{Answered}
 use Rattle.console_rules.specs.Aircraft.{Said, unmade, flight_said}
 use Rattle.console_rules.specs.Station.{Spoken, station_spoken}
 use Rattle.console_rules.specs.declared.names.Command.{Command}
-use Rattle.console_rules.specs.declared.names.Command.TheVariants.{Plain, Flight, Station, Quit, Unknown}
+use Rattle.console_rules.specs.declared.names.Command.TheVariants.{Plain, Flight, Station, Quit}
 use Rattle.console_rules.specs.declared.names.Row.{Row}
 use Rattle.console_rules.specs.declared.names.Reason.{Reason}
 use Rattle.console_rules.specs.Names.{row_of}
-use Rattle.console_rules.specs.Reasons.{too_long, is_too_long, reason_of, is_read, reason_text}
+use Rattle.console_rules.specs.Reasons.{too_long, is_too_long, reading, reason_text}
 
 -- ---- what a line tells: the text that it prints, and the bench that it leaves
 pub record Told : Type 0 where
   pub text : List ℕ
   pub bench : Bench
 
--- the text was laid at the front of a buffer, and the answer has the bench; the text fits the buffer that the program lends
-pub record Answers (t : Told) (before after : List ℕ) (r : Answered) : Type 0 where
-  pub text_put : Put t.text 0 before after r.size
-  pub bench : r.bench ≡ t.bench
+-- the text was laid at the front of a buffer, with so many bytes, and the bench is left; the text fits the buffer that the program lends
+pub record Answers (t : Told) (before after : List ℕ) (left : Bench) (size : ℕ) : Type 0 where
+  pub text_put : Put t.text 0 before after size
+  pub bench : left ≡ t.bench
   pub short : length t.text ≤ room
 
 -- a text, and the bench stays as it was
@@ -52,14 +51,14 @@ call_told (Plain l) b ws = telling (plain_text l ws) b
 call_told (Flight l) b ws = flown b (flight_said l b.aircraft ws)
 call_told (Station l) b ws = served b (station_spoken l b.station ws)
 call_told Quit b ws = telling [] (ended b)
-call_told Unknown b ws = telling [] b
 
 -- a line that is not read says why, and leaves the bench as it was
-unfoldable pub judged_told : Reason → Row → Bench → List (List ℕ) → Told
-judged_told why r b ws = pick (is_read why) (call_told r.command b ws) (telling (reason_text why) b)
+unfoldable pub judged_told : Result Command Reason → Bench → List (List ℕ) → Told
+judged_told (Ok c) b ws = call_told c b ws
+judged_told (Err why) b ws = telling (reason_text why) b
 
-unfoldable pub row_told : Row → Bench → List (List ℕ) → Told
-row_told r b ws = judged_told (reason_of r b.aircraft.made ws) r b ws
+unfoldable pub row_told : Option Row → Bench → List (List ℕ) → Told
+row_told r b ws = judged_told (reading r (is_some b.aircraft) ws) b ws
 
 -- the line that the first word names
 unfoldable pub command_told : Bench → List (List ℕ) → Told

@@ -1,5 +1,5 @@
 -- The lines of the console: the name of each, its call, and what its words are.
-use Rattle.std.specs.Prelude.{ℕ, true, false, List, [], ◌∷◌, get_or}
+use Rattle.std.specs.Prelude.{ℕ, true, false, List, [], ◌∷◌, Option, Some, None}
 use Prim.Native.String.{String}
 use Rattle.lists.specs.Lists.{pick}
 use Rattle.text_rules.specs.Line.{same_as}
@@ -11,7 +11,7 @@ use Rattle.console_rules.specs.declared.names.FlightLine.TheVariants as flight_l
 use Rattle.console_rules.specs.declared.names.StationLine.{StationLine}
 use Rattle.console_rules.specs.declared.names.StationLine.TheVariants as station_line
 use Rattle.console_rules.specs.declared.names.Command.{Command}
-use Rattle.console_rules.specs.declared.names.Command.TheVariants.{Plain, Flight, Station, Quit, Unknown}
+use Rattle.console_rules.specs.declared.names.Command.TheVariants.{Plain, Flight, Station, Quit}
 use Rattle.console_rules.specs.declared.names.Row.{Row}
 
 -- a line's name, and what the line is made of
@@ -23,7 +23,7 @@ pub record Named : Type 0 where
 -- are numbers without a sign
 abbrev pub line : String → Command → ℕ → ℕ → ℕ → Named
 line name c words bytes more =
-    record { name = plain name; row = record { known = true; command = c; words = words; bytes = bytes; more = more; sign = 0; aircraft = false } }
+    record { name = plain name; row = record { command = c; words = words; bytes = bytes; more = more; sign = 0; aircraft = false } }
 
 -- one without a state, one of the station, and one of the aircraft, which needs an aircraft
 abbrev pub simple : String → PlainLine → ℕ → ℕ → ℕ → Named
@@ -34,11 +34,11 @@ service name l words bytes more = line name (Station l) words bytes more
 
 abbrev pub flight : String → FlightLine → ℕ → ℕ → Named
 flight name l words bytes =
-    record { name = plain name; row = record { known = true; command = Flight l; words = words; bytes = bytes; more = 0; sign = 0; aircraft = true } }
+    record { name = plain name; row = record { command = Flight l; words = words; bytes = bytes; more = 0; sign = 0; aircraft = true } }
 
 -- one of a single word, a number that may have a minus sign
 abbrev pub signed : String → PlainLine → Named
-signed name l = record { name = plain name; row = record { known = true; command = Plain l; words = 1; bytes = 0; more = 0; sign = 1; aircraft = false } }
+signed name l = record { name = plain name; row = record { command = Plain l; words = 1; bytes = 0; more = 0; sign = 1; aircraft = false } }
 
 -- the lines
 unfoldable pub table : List Named
@@ -71,22 +71,10 @@ table =
     line "quit" Quit 0 0 0 ∷
     simple "help" plain_line.Help 0 0 0 ∷ []
 
--- how many they are
-abbrev pub row_count : ℕ
-row_count = 27
-
--- where there is none
-abbrev pub no_row : Row
-no_row = record { known = false; command = Unknown; words = 0; bytes = 0; more = 0; sign = 0; aircraft = false }
-
 -- the line that a word names, by the first of the rows with that name
-unfoldable pub row_in : List ℕ → List Named → Row
-row_in w [] = no_row
-row_in w (n ∷ ns) = pick (same_as w n.name) n.row (row_in w ns)
+unfoldable pub row_in : List ℕ → List Named → Option Row
+row_in w [] = None
+row_in w (n ∷ ns) = pick (same_as w n.name) (Some n.row) (row_in w ns)
 
-unfoldable pub row_of : List ℕ → Row
+unfoldable pub row_of : List ℕ → Option Row
 row_of w = row_in w table
-
--- the k-th row, from 0; behind the last one a row without a name
-unfoldable pub row_at : ℕ → Named
-row_at k = get_or table k (record { name = []; row = no_row })

@@ -16,14 +16,12 @@ use Rattle.planner_rules.specs.declared.entry.Status.TheVariants.{Open, Answered
 use Rattle.station_rules.specs.declared.state.Station.{Station}
 use Rattle.station_rules.specs.declared.state.Target.{Target}
 use Rattle.station_rules.specs.declared.state.Plan.{Plan}
-use Rattle.station_rules.specs.declared.state.Outcome.{Outcome}
-use Rattle.station_rules.specs.declared.state.Report.{Report}
+use Rattle.station_rules.specs.Answers.{Outcome, Report}
 use Rattle.station_rules.specs.State.{targets_of, entries_of}
 use Rattle.station_rules.specs.Calls.{set_up, new_target, removed, moved, requested, reported}
 use Rattle.station_rules.specs.Planning.{next_plan}
 use Rattle.station_rules.specs.Replies.{Replied, received, replied}
 use Rattle.stream_rules.specs.Lines.{followed, line, entry_words, entry_lines, report_line}
-use Rattle.console_rules.specs.declared.state.Served.{Served}
 use Rattle.console_rules.specs.declared.names.StationLine.{StationLine}
 use Rattle.console_rules.specs.declared.names.StationLine.TheVariants as lines
 use Rattle.console_rules.specs.Texts.{number_at, bytes_at, done_text, refusal_text, answer_text, room}
@@ -33,10 +31,10 @@ pub record Spoken : Type 0 where
   pub text : List ℕ
   pub station : Station
 
--- the text was laid at the front of a buffer, and the answer has the station; the text fits the buffer that the program lends
-pub record Spoke (s : Spoken) (before after : List ℕ) (r : Served) : Type 0 where
-  pub text_put : Put s.text 0 before after r.size
-  pub station : r.station ≡ s.station
+-- the text was laid at the front of a buffer, with so many bytes, and the station is left; the text fits the buffer that the program lends
+pub record Spoke (s : Spoken) (before after : List ℕ) (left : Station) (size : ℕ) : Type 0 where
+  pub text_put : Put s.text 0 before after size
+  pub station : left ≡ s.station
   pub short : length s.text ≤ room
 
 -- the one with this text and this station

@@ -1,16 +1,11 @@
 -- What a line's words say, and the text of an answer; shared by all lines of the console.
-use Rattle.std.specs.Prelude.{ℕ, ◌≤◌, ◌≡◌, List, [], ◌++◌, eqb, ℤ, pos, length, get_or}
-use Rattle.std.proofs.Math.Option.{Option, some, none}
+use Rattle.std.specs.Prelude.{ℕ, ◌≤◌, ◌≡◌, List, [], ◌++◌, eqb, ℤ, pos, length, get_or, unwrap_or}
 use Rattle.lists.specs.Lists.{pick}
 use Rattle.text_rules.specs.Put.{laid, Put, decimal}
 use Rattle.text_rules.specs.Plain.{plain}
 use Rattle.text_rules.specs.Bases.{number_of}
 use Rattle.text_rules.specs.Signed.{integer_of}
 use Rattle.text_rules.specs.Hex.{bytes_in}
-use Rattle.text_rules.specs.declared.answer.Number.{Number}
-use Rattle.text_rules.specs.declared.answer.Number.TheVariants.{Is, Not}
-use Rattle.text_rules.specs.declared.answer.Integer.{Integer}
-use Rattle.text_rules.specs.declared.answer.Integer.TheVariants as integer
 
 -- ---- read
 
@@ -18,30 +13,15 @@ use Rattle.text_rules.specs.declared.answer.Integer.TheVariants as integer
 unfoldable pub word : ℕ → List (List ℕ) → List ℕ
 word k ws = get_or ws k []
 
--- the number that a word says; 0 for a word that says none, whose line is not read
-unfoldable pub the_number : Number → ℕ
-the_number (Is n) = n
-the_number Not = 0
-
--- the number with its sign that a word says; 0 for a word that says none, whose line is not read
-unfoldable pub the_integer : Integer → ℤ
-the_integer (integer.Is z) = z
-the_integer integer.Not = pos 0
-
--- the bytes that a word says; none for a word that says none, whose line is not read
-unfoldable pub the_bytes : Option (List ℕ) → List ℕ
-the_bytes (some bs) = bs
-the_bytes none = []
-
--- the number, the number with its sign, and the bytes of the k-th word
+-- the number, the number with its sign, and the bytes of the k-th word; 0 or none for a word that says none, whose line is not read
 abbrev pub number_at : ℕ → List (List ℕ) → ℕ
-number_at k ws = the_number (number_of (word k ws))
+number_at k ws = unwrap_or (number_of (word k ws)) 0
 
 abbrev pub integer_at : ℕ → List (List ℕ) → ℤ
-integer_at k ws = the_integer (integer_of (word k ws))
+integer_at k ws = unwrap_or (integer_of (word k ws)) (pos 0)
 
 abbrev pub bytes_at : ℕ → List (List ℕ) → List ℕ
-bytes_at k ws = the_bytes (bytes_in (word k ws))
+bytes_at k ws = unwrap_or (bytes_in (word k ws)) []
 
 -- a call laid the bytes of the k-th word at the front of a buffer, and answered how many they are
 pub record BytesAt (k : ℕ) (ws : List (List ℕ)) (before after : List ℕ) (r : ℕ) : Type 0 where

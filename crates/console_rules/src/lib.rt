@@ -7,4 +7,4 @@ mod names;
 mod state;
 
 pub use names::{Command, FlightLine, PlainLine, Reason, Row, Sort, StationLine};
-pub use state::{Aircraft, Answered, Bench, Served, Shown};
+pub use state::Bench;

@@ -48,7 +48,6 @@ pub enum Command {
     Flight(FlightLine),
     Station(StationLine),
     Quit,
-    Unknown,
 }
 
 // What belongs at a word of a line: a number, a number that may have a minus sign, or bytes.
@@ -59,11 +58,10 @@ pub enum Sort {
     Bytes,
 }
 
-// A line: whether there is one of its name, its call, how many words stand behind the name, which of them are bytes (two at most) and which
-// may have a minus sign (0 for none; all others are numbers), and whether it needs an aircraft.
+// A line: its call, how many words stand behind the name, which of them are bytes (two at most) and which may have a minus sign (0 for none; all
+// others are numbers), and whether it needs an aircraft.
 #[derive(Clone, Copy)]
 pub struct Row {
-    pub known: bool,
     pub command: Command,
     pub words: u8,
     pub bytes: u8,
@@ -72,10 +70,9 @@ pub struct Row {
     pub aircraft: bool,
 }
 
-// Why a line is not read, or that it is: the words wanted behind the name, or the number of the word at fault.
+// Why a line is not read: there is none of its name, the words wanted behind the name, no aircraft, or the number of the word at fault.
 #[derive(Clone, Copy)]
 pub enum Reason {
-    Read,
     NoSuchLine,
     Wanted(u8),
     NoAircraft,

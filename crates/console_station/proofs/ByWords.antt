@@ -1,138 +1,109 @@
--- What a line of the station says, from what was read of its words and from what its call gave.
-use Prim.Native.Nat.{ℕ}
-use native.Mathlib.Omega.{arith}
-use mathlib.Core.Path.{◌≡◌, sym, ap, ◌∙◌}
-use mathlib.Core.Bool.{Bool, true, false, not, ◌&&◌}
-use mathlib.Core.List.{List}
-use lib.ListN.{length, take}
-use lib.Seq.{take_all}
-use borrow.Author.Tests.{eq-eqb, ne_eqb, not-false}
+-- What a line of the station says, from what was read of its words: the call's answer, or 2 where a number is too wide for its field.
+use Rattle.std.proofs.Common.{◌≡◌, ℕ, Bool, true, false, ◌&&◌, Option, Some, None, List, length, take, refl, sym, ap, ◌∙◌, arith, eq-eqb, ne_eqb, take_all}
 use Rattle.frames_rules.specs.Bytes.{number_of_bytes}
-use Rattle.planner_rules.specs.declared.request.Request.{Request}
 use Rattle.station_rules.specs.declared.state.Station.{Station}
-use Rattle.station_rules.specs.declared.state.Outcome.{Outcome}
-use Rattle.station_rules.specs.Calls.{set_up, new_target, removed, moved, requested}
-use Rattle.console_rules.specs.declared.state.Served.{Served}
+use Rattle.station_rules.specs.Calls.{set_up, new_target, moved, requested}
+use Rattle.planner_rules.specs.declared.request.Request.{Request}
+use Rattle.planner_rules.specs.declared.setup.Setup.{Setup}
 use Rattle.console_rules.specs.Texts.{number_at, bytes_at, BytesAt}
-use Rattle.console_rules.specs.Station.{Spoken, Spoke, number_spoken, outcome_spoken, fits, where_held, numbers_from}
-use Rattle.console_rules.specs.Station.{setup_spoken, edges_held, target_spoken, move_spoken, remove_spoken, request_spoken}
+use Rattle.console_rules.specs.Station.{Spoken, Spoke, number_spoken, outcome_spoken, fits, all_fit, where_held, numbers_from}
+use Rattle.console_rules.specs.Station.{setup_spoken, target_spoken, move_spoken, request_spoken}
 use Rattle.console_plain.proofs.Texts.{bytes_are}
-use Rattle.console_station.specs.Held.{EightRead, units_spoken, request_held, asked_spoken, request_with}
-use Rattle.console_station.proofs.Widths.{told_off, told_on}
+use Rattle.console_station.specs.Held.{edges_in, setup_in, request_in, and_then, where_fit}
 
--- a number is too wide, or none is
-module _ (s : Station) (said : Spoken) {l m : List ℕ} {r : Served} {b : Bool} where
-  not_held : false ≡ b → Spoke (number_spoken 2 s) l m r → Spoke (where_held b s said) l m r
-  unfolding where_held
-  not_held e p = rw (← e) p
+-- what is said to what was read
+unfoldable pub read_spoken : {A : Type 0} → Station → Option A → (A → Spoken) → Spoken
+read_spoken s None f = number_spoken 2 s
+read_spoken s (Some a) f = f a
 
-  held : true ≡ b → Spoke said l m r → Spoke (where_held b s said) l m r
-  unfolding where_held
-  held e p = rw (← e) p
+module _ {A : Type 0} (s : Station) (f : A → Spoken) {o : Option A} {said : Spoken} {l m : List ℕ} {q : Station} {r : ℕ} where
+  pub was_read : said ≡ read_spoken s o f → (a : A) → Some a ≡ o → Spoke (f a) l m q r → Spoke said l m q r
+  unfolding read_spoken
+  was_read e a h p = rw (e, ← h) p
 
--- ---- `search target-words`: the targets
-module _ (ws : List (List ℕ)) {near far : ℕ} {t : Bool} where
-  edges_are : t ≡ (fits 16 near && fits 16 far) → near ≡ number_at 2 ws → far ≡ number_at 3 ws → t ≡ edges_held ws
-  edges_are e f g = rw (f, g) at e
+  pub not_read : said ≡ read_spoken s o f → None ≡ o → Spoke (number_spoken 2 s) l m q r → Spoke said l m q r
+  unfolding read_spoken
+  not_read e h p = rw (e, ← h) p
 
-module _ (s : Station) (ws : List (List ℕ)) {l m : List ℕ} {r : Served} where
-  module _ {near far : ℕ} {t : Bool} where
-    pub target_wide : Spoke (number_spoken 2 s) l m r → t ≡ (fits 16 near && fits 16 far) → not t ≡ true → near ≡ number_at 2 ws → far ≡ number_at 3 ws
-        → Spoke (target_spoken s ws) l m r
-    unfolding target_spoken
-    target_wide p e h f g = not_held s _ (told_off (edges_are ws e f g) h) p
+-- ---- the targets
+module _ (s : Station) (near far : ℕ) (f : ℕ → ℕ → Spoken) where
+  edges_by : (a b : Bool)
+      → where_held (a && b) s (f near far)
+      ≡ read_spoken {A = ℕ × ℕ} s (and_then (where_fit a near) (λ near. and_then (where_fit b far) (λ far. Some (near, far)))) (λ e. f e.0 e.1)
+  unfolding where_held read_spoken
+  edges_by true true = refl
+  edges_by true false = refl
+  edges_by false b = refl
 
-    pub move_wide : Spoke (number_spoken 2 s) l m r → t ≡ (fits 16 near && fits 16 far) → not t ≡ true → near ≡ number_at 2 ws → far ≡ number_at 3 ws
-        → Spoke (move_spoken s ws) l m r
-    unfolding move_spoken
-    move_wide p e h f g = not_held s _ (told_off (edges_are ws e f g) h) p
+module _ (s : Station) (ws : List (List ℕ)) where
+  pub target_read : target_spoken s ws ≡ read_spoken {A = ℕ × ℕ} s (edges_in ws) (λ e. outcome_spoken (new_target s (number_at 1 ws) e.0 e.1))
+  unfolding target_spoken
+  target_read =
+      edges_by s (number_at 2 ws) (number_at 3 ws) (λ near far. outcome_spoken (new_target s (number_at 1 ws) near far))
+      (fits 16 (number_at 2 ws)) (fits 16 (number_at 3 ws))
 
-    module _ {o : Outcome} {a : ℕ} (p : Spoke (outcome_spoken o) l m r) where
-      pub target_line_is : o ≡ new_target s a near far → t ≡ (fits 16 near && fits 16 far) → not t ≡ false → a ≡ number_at 1 ws → near ≡ number_at 2 ws
-          → far ≡ number_at 3 ws → Spoke (target_spoken s ws) l m r
-      unfolding target_spoken
-      target_line_is d e h b f g = held s _ (told_on (edges_are ws e f g) h) (rw (d, b, f, g) at p)
+  pub move_read : move_spoken s ws ≡ read_spoken {A = ℕ × ℕ} s (edges_in ws) (λ e. outcome_spoken (moved s (number_at 1 ws) e.0 e.1))
+  unfolding move_spoken
+  move_read =
+      edges_by s (number_at 2 ws) (number_at 3 ws) (λ near far. outcome_spoken (moved s (number_at 1 ws) near far))
+      (fits 16 (number_at 2 ws)) (fits 16 (number_at 3 ws))
 
-      pub move_line : o ≡ moved s a near far → t ≡ (fits 16 near && fits 16 far) → not t ≡ false → a ≡ number_at 1 ws → near ≡ number_at 2 ws
-          → far ≡ number_at 3 ws → Spoke (move_spoken s ws) l m r
-      unfolding move_spoken
-      move_line d e h b f g = held s _ (told_on (edges_are ws e f g) h) (rw (d, b, f, g) at p)
+-- ---- the setup
+module _ (s : Station) (p r l : ℕ) (g k : List ℕ) (f : Setup → Spoken) where
+  setup_by : (a b c d e : Bool)
+      → where_held (a && b && c) s
+      (where_held d s (where_held e s (f (record { period = p; reach = r; limit = l; guarantee = g; ceiling = k }))))
+      ≡ read_spoken s
+      (and_then (where_fit a p) (λ p. and_then (where_fit b r) (λ r. and_then (where_fit c l) (λ l. and_then (where_fit d g) (λ g.
+      and_then (where_fit e k) (λ k. Some (record { period = p; reach = r; limit = l; guarantee = g; ceiling = k })))))))
+      f
+  unfolding where_held read_spoken
+  setup_by true true true true true = refl
+  setup_by true true true true false = refl
+  setup_by true true true false e = refl
+  setup_by true true false d e = refl
+  setup_by true false c d e = refl
+  setup_by false b c d e = refl
 
-  pub remove_line : {o : Outcome} {a : ℕ} → Spoke (outcome_spoken o) l m r → o ≡ removed s a → a ≡ number_at 1 ws → Spoke (remove_spoken s ws) l m r
-  unfolding remove_spoken
-  remove_line p e b = rw (e, b) at p
+pub setup_read : (s : Station) (ws : List (List ℕ)) → setup_spoken s ws ≡ read_spoken s (setup_in ws) (λ h. outcome_spoken (set_up s h))
+unfolding setup_spoken
+setup_read s ws =
+    setup_by s (number_at 1 ws) (number_at 2 ws) (number_at 3 ws) (numbers_from 4 8 ws) (numbers_from 12 8 ws) (λ h. outcome_spoken (set_up s h))
+    (fits 16 (number_at 1 ws)) (fits 16 (number_at 2 ws)) (fits 8 (number_at 3 ws)) (all_fit 8 (numbers_from 4 8 ws)) (all_fit 8 (numbers_from 12 8 ws))
 
-pub ruleset target_words = (target_wide, move_wide, target_line_is, move_line, remove_line)
+-- ---- a request
+module _ (s : Station) (unit address uf pc rr di sd ma : ℕ) (f : Request → Spoken) where
+  request_by : (a b c d e g : Bool)
+      → where_held (a && (b && (c && (d && (e && true)))) && g) s
+      (f (record { unit = unit; address = address; uf = uf; pc = pc; rr = rr; di = di; sd = sd; ma = ma }))
+      ≡ read_spoken s
+      (and_then (where_fit a unit) (λ unit. and_then (where_fit b uf) (λ uf. and_then (where_fit c pc) (λ pc. and_then (where_fit d rr) (λ rr.
+      and_then (where_fit e di) (λ di. and_then (where_fit g sd) (λ sd.
+      Some (record { unit = unit; address = address; uf = uf; pc = pc; rr = rr; di = di; sd = sd; ma = ma }))))))))
+      f
+  unfolding where_held read_spoken
+  request_by true true true true true true = refl
+  request_by true true true true true false = refl
+  request_by true true true true false g = refl
+  request_by true true true false e g = refl
+  request_by true true false d e g = refl
+  request_by true false c d e g = refl
+  request_by false b c d e g = refl
 
--- ---- `search setup-words`: the setup
-module _ (ws : List (List ℕ)) {t : Bool} {a b c : ℕ} where
-  sizes_are : t ≡ (fits 16 a && fits 16 b && fits 8 c) → a ≡ number_at 1 ws → b ≡ number_at 2 ws → c ≡ number_at 3 ws
-      → t ≡ (fits 16 (number_at 1 ws) && fits 16 (number_at 2 ws) && fits 8 (number_at 3 ws))
-  sizes_are e x y z = rw (x, y, z) at e
+module _ (s : Station) (ws : List (List ℕ)) {n : ℕ} {before after : List ℕ} (e : BytesAt 8 ws before after n) where
+  pub request_short : {l m : List ℕ} {q : Station} {r : ℕ} → (n ≡ 7 → ⊥) → Spoke (number_spoken 1 s) l m q r → Spoke (request_spoken s ws) l m q r
+  unfolding request_spoken
+  request_short h p = rw (ne_eqb (length (bytes_at 8 ws)) 7 (λ z. h (e.answer ∙ z))) p
 
-module _ (s : Station) (ws : List (List ℕ)) {l m : List ℕ} {r : Served} where
-  module _ {t : Bool} {a b c : ℕ} where
-    pub setup_wide : Spoke (number_spoken 2 s) l m r → t ≡ (fits 16 a && fits 16 b && fits 8 c) → not t ≡ true → a ≡ number_at 1 ws → b ≡ number_at 2 ws
-        → c ≡ number_at 3 ws → Spoke (setup_spoken s ws) l m r
-    unfolding setup_spoken
-    setup_wide p e h x y z = not_held s _ (told_off (sizes_are ws e x y z) h) p
-
-    pub setup_line : Spoke (units_spoken s a b c ws) l m r → t ≡ (fits 16 a && fits 16 b && fits 8 c) → not t ≡ false → a ≡ number_at 1 ws
-        → b ≡ number_at 2 ws → c ≡ number_at 3 ws → Spoke (setup_spoken s ws) l m r
-    unfolding setup_spoken units_spoken
-    setup_line p e h x y z = held s _ (told_on (sizes_are ws e x y z) h) (rw (x, y, z) at p)
-
-  -- its guarantees, and its ceilings
-  module _ (a b c : ℕ) {t : Bool} {g₀ g : List ℕ} (e : EightRead 4 ws g₀ g t) where
-    pub guarantee_wide : Spoke (number_spoken 2 s) l m r → not t ≡ true → Spoke (units_spoken s a b c ws) l m r
-    unfolding units_spoken
-    guarantee_wide p h = not_held s _ (told_off e.answer h) p
-
-    module _ {u : Bool} {d₀ d : List ℕ} (f : EightRead 12 ws d₀ d u) (h : not t ≡ false) where
-      pub ceiling_wide : Spoke (number_spoken 2 s) l m r → not u ≡ true → Spoke (units_spoken s a b c ws) l m r
-      unfolding units_spoken
-      ceiling_wide p k = held s _ (told_on e.answer h) (not_held s _ (told_off f.answer k) p)
-
-      pub units_line : {o : Outcome} → Spoke (outcome_spoken o) l m r → o ≡ set_up s (record { period = a; reach = b; limit = c; guarantee = g; ceiling = d })
-          → not u ≡ false → length g₀ ≡ 8 → length d₀ ≡ 8 → Spoke (units_spoken s a b c ws) l m r
-      unfolding units_spoken
-      units_line p q k v w =
-          let x : g ≡ numbers_from 4 8 ws = e.numbers (not-false t h) v in
-          let y : d ≡ numbers_from 12 8 ws = f.numbers (not-false u k) w in
-          held s _ (told_on e.answer h) (held s _ (told_on f.answer k) (rw (q, x, y) at p))
-
-pub ruleset setup_words = (setup_wide, setup_line, guarantee_wide, ceiling_wide, units_line)
-
--- ---- `search request-words`: a request
-module _ (s : Station) {l m : List ℕ} {r : Served} where
-  module _ (q : Request) {t : Bool} where
-    pub asked_wide : Spoke (number_spoken 2 s) l m r → t ≡ request_held q → not t ≡ true → Spoke (asked_spoken s q) l m r
-    unfolding asked_spoken
-    asked_wide p e h = not_held s _ (told_off e h) p
-
-    pub asked_line : {o : Outcome} → Spoke (outcome_spoken o) l m r → o ≡ requested s q → t ≡ request_held q → not t ≡ false → Spoke (asked_spoken s q) l m r
-    unfolding asked_spoken
-    asked_line p d e h = held s _ (told_on e h) (rw d at p)
-
-  module _ (ws : List (List ℕ)) where
-    pub fields_line : (ma : ℕ) {unit address uf pc rr di sd : ℕ}
-        → Spoke (asked_spoken s (record { unit = unit; address = address; uf = uf; pc = pc; rr = rr; di = di; sd = sd; ma = ma })) l m r → unit ≡ number_at 1 ws
-        → address ≡ number_at 2 ws → uf ≡ number_at 3 ws → pc ≡ number_at 4 ws → rr ≡ number_at 5 ws → di ≡ number_at 6 ws → sd ≡ number_at 7 ws
-        → Spoke (asked_spoken s (request_with ma ws)) l m r
-    fields_line ma p a b c d e f g = rw (a, b, c, d, e, f, g) at p
-
-    module _ {n : ℕ} {before after : List ℕ} where
-      pub request_short : Spoke (number_spoken 1 s) l m r → BytesAt 8 ws before after n → (n ≡ 7 → ⊥) → Spoke (request_spoken s ws) l m r
-      unfolding request_spoken
-      request_short p e h = rw (ne_eqb (length (bytes_at 8 ws)) 7 (λ z. h (e.answer ∙ z))) p
-
-      pub request_line : {ma : ℕ} → Spoke (asked_spoken s (request_with ma ws)) l m r → ma ≡ number_of_bytes (take 7 (take n after)) → BytesAt 8 ws before after n
-          → length before ≡ 32 → n ≡ 7 → Spoke (request_spoken s ws) l m r
-      unfolding request_spoken asked_spoken numbers_from
-      request_line {ma} p d e z h =
-          let k : length (bytes_at 8 ws) ≡ 7 = sym e.answer ∙ h in
-          let w : take 7 (take n after) ≡ bytes_at 8 ws = ap (take 7) (bytes_are e z) ∙ take_all 7 (bytes_at 8 ws) (omega arith) in
-          let v : ma ≡ number_of_bytes (bytes_at 8 ws) = d ∙ ap number_of_bytes w in
-          rw (eq-eqb (length (bytes_at 8 ws)) 7 k) (rw v at p)
-
-pub ruleset request_words = (asked_wide, asked_line, fields_line, request_short, request_line)
+  pub request_read : {ma : ℕ} → ma ≡ number_of_bytes (take 7 (take n after)) → length before ≡ 32 → n ≡ 7
+      → request_spoken s ws ≡ read_spoken s (request_in ma ws) (λ q. outcome_spoken (requested s q))
+  unfolding request_spoken all_fit numbers_from
+  request_read {ma} d z h =
+      let k : length (bytes_at 8 ws) ≡ 7 = sym e.answer ∙ h in
+      let w : take 7 (take n after) ≡ bytes_at 8 ws = ap (take 7) (bytes_are e z) ∙ take_all 7 (bytes_at 8 ws) (omega arith) in
+      let v : ma ≡ number_of_bytes (bytes_at 8 ws) = d ∙ ap number_of_bytes w in
+      rw (eq-eqb (length (bytes_at 8 ws)) 7 k, v)
+      (request_by s (number_at 1 ws) (number_at 2 ws) (number_at 3 ws) (number_at 4 ws) (number_at 5 ws) (number_at 6 ws) (number_at 7 ws)
+      (number_of_bytes (bytes_at 8 ws)) (λ q. outcome_spoken (requested s q))
+      (fits 8 (number_at 1 ws)) (fits 8 (number_at 3 ws)) (fits 8 (number_at 4 ws)) (fits 8 (number_at 5 ws)) (fits 8 (number_at 6 ws))
+      (fits 16 (number_at 7 ws)))

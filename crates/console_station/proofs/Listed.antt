@@ -4,8 +4,9 @@ use native.Mathlib.Omega.{arith}
 use native.Mathlib.Numerals.{add-one}
 use mathlib.Core.Path.{◌≡◌, sym}
 use mathlib.Core.List.{List, [], ◌∷◌, ◌++◌}
-use lib.ListN.{length, get_or, take, drop, length-take, length-append}
-use Rattle.lists.proofs.Front.{front_drop, front_end}
+use lib.ListN.{length, get_or, take, drop, length-take, length-append, drop_of_length-le}
+use Rattle.std.proofs.lemmas.List.{drop_more}
+use Rattle.lists.proofs.Front.{take_cut}
 use Rattle.text_rules.specs.Put.{Put, decimal}
 use Rattle.text_rules.specs.Plain.{plain}
 use Rattle.text_rules.proofs.Decimal.{decimal_fits}
@@ -43,27 +44,27 @@ pub target_laid : (t : Target) {at p q r z : ℕ} {l m n o y : List ℕ} → Wit
 unfolding target_line
 target_laid t a b c d = within_then a (within_then b (within_then c d))
 
-module _ (n : ℕ) (ts : List Target) (i : ℕ) where
-  pub targets_more : (d : Target) → i < min n (length ts)
-      → target_lines (drop i (take n ts)) ≡ target_line (get_or ts i d) ++ target_lines (drop (i + 1) (take n ts))
+module _ (ts : List Target) (i : ℕ) where
+  pub targets_more : (d : Target) → i < length ts → target_lines (drop i ts) ≡ target_line (get_or ts i d) ++ target_lines (drop (i + 1) ts)
   unfolding target_lines
-  targets_more d b = rw (front_drop n ts i d b)
+  targets_more d b = rw (drop_more ts i d b)
 
-  pub targets_none : min n (length ts) ≤ i → target_lines (drop i (take n ts)) ≡ []
+  pub targets_none : length ts ≤ i → target_lines (drop i ts) ≡ []
   unfolding target_lines
-  targets_none b = rw (front_end n ts i b)
+  targets_none b = rw (drop_of_length-le ts b)
 
 -- how many, and below that the lines
 pub targets_laid : (n : ℕ) (ts : List Target) {c p q r z : ℕ} {l m o x y : List ℕ} → c ≡ min n (length ts) → c ≤ 64 → Put (plain "0 ") 0 l m p
-    → Put (decimal c) p m o q → Put (plain "\n") q o x r → Within 5376 (target_lines (take n ts)) r x y z → Within 5400 (targets_text (take n ts)) 0 l y z
+    → Put (decimal c) p m o q → Put (plain "\n") q o x r → Within 5376 (target_lines (take c ts)) r x y z → Within 5400 (targets_text (take n ts)) 0 l y z
 unfolding targets_text done_text
 targets_laid n ts {c} e h a b d w =
     let k : c ≡ length (take n ts) = simp length-take (omega (arith, e)) in
     let z = done_short 10 (decimal c) (decimal_fits c (omega arith)) in
-    rw (← k) (within_more 5389 5400 (omega arith) (within_then (within 13 z (put_then a (put_then b d))) w))
+    let cut : take c ts ≡ take n ts = rw e (take_cut n ts) in
+    rw (← k, ← cut) (within_more 5389 5400 (omega arith) (within_then (within 13 z (put_then a (put_then b d))) w))
 
 pub targets_said : (s : Station) {l m : List ℕ} {size : ℕ} → Within 5400 (targets_text (targets_of s.targets)) 0 l m size
-    → Spoke (targets_spoken s) l m (record { size = size; station = s })
+    → Spoke (targets_spoken s) l m s size
 unfolding targets_spoken
 targets_said s w = speaks_within w (omega arith)
 
@@ -90,27 +91,28 @@ pub status_laid : (k : ℕ) (e : Entry) {at r q : ℕ} {l m o : List ℕ} → Wi
 unfolding status_line
 status_laid k e a b = within_of (sym (line_spaced (entry_words k e) (status_word e.status))) (within_then a b)
 
-module _ (n : ℕ) (es : List Entry) (i : ℕ) where
-  pub entries_more : (d : Entry) → i < min n (length es)
-      → status_lines i (drop i (take n es)) ≡ status_line i (get_or es i d) ++ status_lines (i + 1) (drop (i + 1) (take n es))
+module _ (es : List Entry) (i : ℕ) where
+  pub entries_more : (d : Entry) → i < length es
+      → status_lines i (drop i es) ≡ status_line i (get_or es i d) ++ status_lines (i + 1) (drop (i + 1) es)
   unfolding status_lines
-  entries_more d b = rw (front_drop n es i d b, add-one)
+  entries_more d b = rw (drop_more es i d b, add-one)
 
-  pub entries_none : min n (length es) ≤ i → status_lines i (drop i (take n es)) ≡ []
+  pub entries_none : length es ≤ i → status_lines i (drop i es) ≡ []
   unfolding status_lines
-  entries_none b = rw (front_end n es i b)
+  entries_none b = rw (drop_of_length-le es b)
 
 -- how many and the plan's tag, and below that the lines
 pub entries_laid : (n : ℕ) (es : List Entry) (tag : ℕ) {c p q r s t z : ℕ} {l m o u v x y : List ℕ} → c ≡ min n (length es) → c ≤ 128 → tag < 4294967296
     → Put (plain "0 ") 0 l m p → Put (decimal c) p m o q → Put (plain " ") q o u r → Put (decimal tag) r u v s → Put (plain "\n") s v x t
-    → Within 10496 (status_lines 0 (take n es)) t x y z → Within 10560 (entries_text (record { list = es; n = n; tag = tag })) 0 l y z
+    → Within 10496 (status_lines 0 (take c es)) t x y z → Within 10560 (entries_text (record { list = es; n = n; tag = tag })) 0 l y z
 unfolding entries_text done_text
 entries_laid n es tag {c} e h f a b d g i w =
     let k : c ≡ length (take n es) = simp length-take (omega (arith, e)) in
     let z = done_short 21 (decimal c ++ (plain " " ++ decimal tag)) (simp length-append (omega (arith, decimal_fits c (omega arith), decimal_fits tag f))) in
-    rw (← k) (within_more 10520 10560 (omega arith) (within_then (within 24 z (put_then a (put_then (put_then b (put_then d g)) i))) w))
+    let cut : take c es ≡ take n es = rw e (take_cut n es) in
+    rw (← k, ← cut) (within_more 10520 10560 (omega arith) (within_then (within 24 z (put_then a (put_then (put_then b (put_then d g)) i))) w))
 
 pub entries_said : (s : Station) {l m : List ℕ} {size : ℕ} → Within 10560 (entries_text s.plan) 0 l m size
-    → Spoke (entries_spoken s) l m (record { size = size; station = s })
+    → Spoke (entries_spoken s) l m s size
 unfolding entries_spoken
 entries_said s w = speaks_within w (omega arith)

@@ -1,121 +1,44 @@
--- Whether a call's own type holds a number, by the tests of the code.
-use Prim.Native.Nat.{ℕ, suc, ◌+◌, ◌-◌, ◌≤◌, ◌<◌}
-use native.Mathlib.Numerals.{add-one}
-use native.Mathlib.Omega.{arith}
-use mathlib.Core.Path.{◌≡◌, refl, sym, ◌∙◌}
-use mathlib.Core.Bool.{Bool, true, false, not, ◌&&◌, false≢true}
-use mathlib.Core.List.{List, [], ◌∷◌}
-use lib.ListN.{length, set}
+-- Whether the field of a call holds a number, and what is read of eight.
+use Rattle.std.proofs.Common.{◌≡◌, ℕ, suc, ◌+◌, ◌-◌, ◌≤◌, ◌<◌, Bool, true, false, ◌&&◌, Option, Some, None}
+use Rattle.std.proofs.Common.{List, length, set, refl, sym, ap, ◌∙◌, arith, add-one}
+use mathlib.Core.Bool.{false≢true}
 use lib.Seq.{take_all}
-use mir.Syntax.{w8, w16}
-use mir.Val.{Fits}
-use borrow.Author.Tests.{ltb-true, lt-ltb, le-ltb, not-true, not-false}
-use Rattle.lists.proofs.Tests.{and_true, and_left, and_right}
 use Rattle.text_rules.specs.Put.{laid}
 use Rattle.text_rules.proofs.Laid.{take_laid, length_laid}
 use Rattle.console_rules.specs.Texts.{number_at}
 use Rattle.console_rules.specs.Station.{fits, all_fit, numbers_from}
-use Rattle.console_station.specs.Held.{EightRead}
+use Rattle.console_station.specs.Held.{where_fit, narrow, eight_from}
 
--- ---- `search widths` finds what the tests say, one after the other
-
--- a number that is too wide, and one that is not
-pub wide8 : (n : ℕ) → 255 < n → false ≡ fits 8 n
-wide8 n h = sym (le-ltb n 256 (omega arith))
-
-pub narrow8 : (n : ℕ) → n ≤ 255 → true ≡ fits 8 n
-narrow8 n h = sym (lt-ltb n 256 (omega arith))
-
-pub wide16 : (n : ℕ) → 65535 < n → false ≡ fits 16 n
-wide16 n h = sym (le-ltb n 65536 (omega arith))
-
-pub narrow16 : (n : ℕ) → n ≤ 65535 → true ≡ fits 16 n
-narrow16 n h = sym (lt-ltb n 65536 (omega arith))
-
--- two tests: the first fails; it does not, and then the other's answer; the last of several
+-- two tests: the first fails; it does not, and then the other's answer
 pub off : {a : Bool} (b : Bool) → false ≡ a → false ≡ (a && b)
 off b e = rw (← e)
 
 pub on : {a b x : Bool} → true ≡ a → x ≡ b → x ≡ (a && b)
 on e h = rw (← e) h
 
-pub last : (b : Bool) → b ≡ (b && true)
-last true = refl
-last false = refl
+-- a number that was read, and one that was not
+abbrev is_read : {A : Type 0} → Option A → Bool
+is_read None = false
+is_read (Some a) = true
 
--- what another function has tested
-pub told_off : {t a : Bool} → t ≡ a → not t ≡ true → false ≡ a
-told_off {t} e h = sym (not-true t h) ∙ e
+abbrev read_or : {A : Type 0} → Option A → A → A
+read_or None d = d
+read_or (Some a) d = a
 
-pub told_on : {t a : Bool} → t ≡ a → not t ≡ false → true ≡ a
-told_on {t} e h = sym (not-false t h) ∙ e
+module _ (bits n : ℕ) where
+  pub wide : None ≡ narrow bits n → false ≡ fits bits n
+  wide h = go (fits bits n) h
+    where
+      go : (t : Bool) → None ≡ where_fit t n → false ≡ t
+      go true e = ap is_read e
+      go false e = refl
 
-pub ruleset widths = (wide8, narrow8, wide16, narrow16, off, on, last, told_off, told_on)
-
--- ---- a number fits the type that it is cast to, from the function that has tested it: `search near_fits` finds it, and so on
-fits8 : (n : ℕ) → fits 8 n ≡ true → Fits w8 n
-fits8 n e = record { fits = ltb-true n 256 e }
-
-fits16 : (n : ℕ) → fits 16 n ≡ true → Fits w16 n
-fits16 n e = record { fits = ltb-true n 65536 e }
-
-first_fits : (n : ℕ) (ns : List ℕ) → all_fit 8 (n ∷ ns) ≡ true → (fits 8 n ≡ true) × (all_fit 8 ns ≡ true)
-unfolding all_fit
-first_fits n ns e = and_true (fits 8 n) (all_fit 8 ns) e
-
-module _ (near far : ℕ) {t : Bool} (e : t ≡ (fits 16 near && fits 16 far)) (h : not t ≡ false) where
-  edges : (fits 16 near ≡ true) × (fits 16 far ≡ true)
-  edges = and_true (fits 16 near) (fits 16 far) (sym (told_on e h))
-
-  pub near_fits : Fits w16 near
-  near_fits = fits16 near edges.0
-
-  pub far_fits : Fits w16 far
-  far_fits = fits16 far edges.1
-
-module _ (period reach limit : ℕ) {t : Bool} (e : t ≡ (fits 16 period && fits 16 reach && fits 8 limit)) (h : not t ≡ false) where
-  sizes : (fits 16 period && fits 16 reach ≡ true) × (fits 8 limit ≡ true)
-  sizes = and_true (fits 16 period && fits 16 reach) (fits 8 limit) (sym (told_on e h))
-
-  pub period_fits : Fits w16 period
-  period_fits = fits16 period (and_left (fits 16 period) (fits 16 reach) sizes.0)
-
-  pub reach_fits : Fits w16 reach
-  reach_fits = fits16 reach (and_right (fits 16 period) (fits 16 reach) sizes.0)
-
-  pub limit_fits : Fits w8 limit
-  limit_fits = fits8 limit sizes.1
-
-module _ (unit uf pc rr di sd : ℕ) {t : Bool} (e : t ≡ (fits 8 unit && all_fit 8 (uf ∷ pc ∷ rr ∷ di ∷ []) && fits 16 sd)) (h : not t ≡ false) where
-  fields : (fits 8 unit && all_fit 8 (uf ∷ pc ∷ rr ∷ di ∷ []) ≡ true) × (fits 16 sd ≡ true)
-  fields = and_true (fits 8 unit && all_fit 8 (uf ∷ pc ∷ rr ∷ di ∷ [])) (fits 16 sd) (sym (told_on e h))
-
-  four : (fits 8 uf ≡ true) × (all_fit 8 (pc ∷ rr ∷ di ∷ []) ≡ true)
-  four = first_fits uf _ (and_right (fits 8 unit) (all_fit 8 (uf ∷ pc ∷ rr ∷ di ∷ [])) fields.0)
-
-  three : (fits 8 pc ≡ true) × (all_fit 8 (rr ∷ di ∷ []) ≡ true)
-  three = first_fits pc _ four.1
-
-  two : (fits 8 rr ≡ true) × (all_fit 8 (di ∷ []) ≡ true)
-  two = first_fits rr _ three.1
-
-  pub unit_fits : Fits w8 unit
-  unit_fits = fits8 unit (and_left (fits 8 unit) (all_fit 8 (uf ∷ pc ∷ rr ∷ di ∷ [])) fields.0)
-
-  pub uf_fits : Fits w8 uf
-  uf_fits = fits8 uf four.0
-
-  pub pc_fits : Fits w8 pc
-  pc_fits = fits8 pc three.0
-
-  pub rr_fits : Fits w8 rr
-  rr_fits = fits8 rr two.0
-
-  pub di_fits : Fits w8 di
-  di_fits = fits8 di (first_fits di [] two.1).0
-
-  pub sd_fits : Fits w16 sd
-  sd_fits = fits16 sd fields.1
+  pub held : {b : ℕ} → Some b ≡ narrow bits n → (true ≡ fits bits n) × (b ≡ n)
+  held {b} h = go (fits bits n) h
+    where
+      go : (t : Bool) → Some b ≡ where_fit t n → (true ≡ t) × (b ≡ n)
+      go true e = (refl, ap (λ (o : Option ℕ). read_or o b) e)
+      go false e = absurd (false≢true (sym (ap is_read e)))
 
 -- ---- eight numbers, of which those before place i are laid, each of eight bits: the rest tells whether all have, and what is laid then
 pub record Reading (k : ℕ) (ws : List (List ℕ)) (start : List ℕ) (i : ℕ) (l : List ℕ) : Type 0 where
@@ -140,29 +63,30 @@ module _ (k : ℕ) (ws : List (List ℕ)) where
       }
 
   module _ {start l : List ℕ} {i : ℕ} (h : Reading k ws start i l) where
-    pub reading_more : {n : ℕ} → n ≡ number_at (k + i) ws → n ≤ 255 → Reading k ws start (i + 1) (set l i n)
+    pub reading_more : {n b : ℕ} → n ≡ number_at (k + i) ws → Some b ≡ narrow 8 n → Reading k ws start (i + 1) (set l i b)
     unfolding all_fit numbers_from laid
-    reading_more {n} e b =
+    reading_more {n} {b} e t =
         record {
           rest =
               λ j q.
               let z : k + (i + 1) ≡ suc (k + i) = omega arith in
               let p = h.rest (suc j) (omega arith) in
-              let f : true ≡ fits 8 (number_at (k + i) ws) = rw e at (narrow8 n b) in
-              rw (z, add-one i, e) (on f refl ∙ p.0, p.1);
+              let r = held 8 n t in
+              let f : true ≡ fits 8 (number_at (k + i) ws) = rw e at r.0 in
+              let v : b ≡ number_at (k + i) ws = r.1 ∙ e in
+              rw (z, add-one i, v) (on f refl ∙ p.0, p.1);
         }
 
-    pub reading_wide : {n : ℕ} (m : List ℕ) → n ≡ number_at (k + i) ws → 255 < n → i < 8 → EightRead k ws start m false
+    pub reading_wide : {n : ℕ} → n ≡ number_at (k + i) ws → None ≡ narrow 8 n → i < 8 → None ≡ eight_from k ws
     unfolding all_fit numbers_from
-    reading_wide {n} m e b q =
+    reading_wide {n} e b q =
         let p = h.rest (suc (7 - i)) (omega arith) in
-        let f : false ≡ fits 8 (number_at (k + i) ws) = rw e at (wide8 n b) in
-        record { answer = off _ f ∙ p.0; numbers = λ t z. absurd (false≢true t) }
+        let f : false ≡ fits 8 (number_at (k + i) ws) = rw e at (wide 8 n b) in
+        let g : false ≡ all_fit 8 (numbers_from k 8 ws) = off _ f ∙ p.0 in
+        rw (← g)
 
-    pub reading_all : 8 ≤ i → i ≤ 8 → EightRead k ws start l true
+    pub reading_all : 8 ≤ i → i ≤ 8 → length start ≡ 8 → Some l ≡ eight_from k ws
     unfolding all_fit numbers_from laid
-    reading_all a b =
+    reading_all a b z =
         let p = h.rest 0 (omega arith) in
-        record { answer = p.0; numbers = λ t z. p.1 ∙ laid_whole (numbers_from k 8 ws) start (sym z) }
-
-pub ruleset reading = (reading_first, reading_more, reading_wide, reading_all)
+        rw (← p.0) (ap Some (p.1 ∙ laid_whole (numbers_from k 8 ws) start (sym z)))

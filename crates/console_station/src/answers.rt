@@ -1,21 +1,28 @@
-// The answers without a value.
+// The answers without a value, whatever station is left.
+ghost use Rattle.refusals.specs.Refusals.{number_of};
+ghost use Rattle.station_rules.specs.declared.state.Station.{Station};
+ghost use Rattle.station_rules.specs.Answers.{outcome};
 ghost use Rattle.console_rules.specs.Station.{Spoke, number_spoken, outcome_spoken};
 
-use console_rules::Served;
-use station_rules::{Outcome, Station};
+use refusals::{Refusal, number_given};
 
 // A call's number alone.
-pub(crate) fn put_number(n: u8, s: Station, out: &mut [u8]) -> Served
-    ensures { Spoke (number_spoken n s) out.old out.new result }
+fn put_number(n: u8, out: &mut [u8]) -> usize
+    ensures { (s : Station) → Spoke (number_spoken n s) out.old out.new s result }
 {
-    let size = console_plain::put_refusal(out, n as u32);
-    Served { size, station: s }
+    console_plain::put_refusal(out, n as u32)
 }
 
-// What a call of the station was given, and the station that it left.
-pub(crate) fn put_outcome(o: Outcome, out: &mut [u8]) -> Served
-    ensures { Spoke (outcome_spoken o) out.old out.new result }
+// Why a line is refused.
+pub(crate) fn put_refused(refusal: Refusal, out: &mut [u8]) -> usize
+    ensures { (s : Station) → Spoke (number_spoken (number_of refusal) s) out.old out.new s result }
 {
-    let station = o.station;
-    put_number(o.number, station, out)
+    put_number(u8::from(refusal), out)
+}
+
+// What a call of the station was given.
+pub(crate) fn put_outcome(r: Result<(), Refusal>, out: &mut [u8]) -> usize
+    ensures { (s : Station) → Spoke (outcome_spoken (outcome r s)) out.old out.new s result }
+{
+    put_number(number_given(&r), out)
 }

@@ -3,7 +3,6 @@ ghost use Rattle.stream_rules.specs.Lines.{followed};
 ghost use Rattle.stream.specs.Calls.{Within};
 ghost use Rattle.console_rules.specs.Station.{Spoke, status_word, status_line, entries_text, entries_spoken};
 
-use console_rules::Served;
 use numbers::live;
 use planner_rules::{Entry, Status};
 use station_rules::Station;
@@ -23,14 +22,13 @@ fn put_status(out: &mut [u8], at: usize, s: Status) -> usize
 fn put_line(out: &mut [u8], at: usize, k: u32, e: Entry) -> usize
     ensures { Within 82 (status_line k e) at out.old out.new result }
 {
-    let status = e.status;
     let end = stream::put_entry_head(out, at, k, e);
-    put_status(out, end, status)
+    put_status(out, end, e.status)
 }
 
 // How many the first n entries are and the plan's tag, and below that a line each.
-fn put_list(out: &mut [u8], entries: [Entry; 128], n: usize, tag: u32) -> usize
-    ensures { Within 10560 (entries_text (record { list = entries; n = n; tag = tag })) 0 out.old out.new result }
+fn put_list(out: &mut [u8], entries: &[Entry; 128], n: usize, tag: u32) -> usize
+    ensures { Within 10560 (entries_text (record { list = entries.now; n = n; tag = tag })) 0 out.old out.new result }
 {
     let m = live(n, 128);
     let first = text::put_bytes(out, 0, b"0 ");
@@ -38,21 +36,15 @@ fn put_list(out: &mut [u8], entries: [Entry; 128], n: usize, tag: u32) -> usize
     let behind = text::put_byte(out, gap, 32);
     let end = text::put_decimal(out, behind, tag);
     let mut next = text::put_byte(out, end, 10);
-    let mut i: usize = 0;
-    while i < m {
-        let e = entries[i];
-        next = put_line(out, next, i as u32, e);
-        i += 1;
+    for (k, &e) in entries[..m].iter().enumerate() {
+        next = put_line(out, next, k as u32, e);
     }
     next
 }
 
 // The plan in force as it stands.
-pub(crate) fn put_entries(s: Station, out: &mut [u8]) -> Served
-    ensures { Spoke (entries_spoken s) out.old out.new result }
+pub(crate) fn put_entries(s: &Station, out: &mut [u8]) -> usize
+    ensures { Spoke (entries_spoken s.now) out.old out.new s.now result }
 {
-    let p = s.plan;
-    let list = p.list;
-    let size = put_list(out, list, p.n, p.tag);
-    Served { size, station: s }
+    put_list(out, &s.plan.list, s.plan.n, s.plan.tag)
 }

@@ -1,74 +1,82 @@
-// The numbers that a call's own type must hold: a word says up to 32 bits, and what is wider is refused and never cut.
-ghost use Rattle.std.specs.Prelude.{◌≤◌, ◌≡◌, ◌&&◌, ◌∷◌, []};
+// What a call of the station is handed, read of a line: a word says up to 32 bits, and what is wider than its field is not read, and never cut.
+ghost use Rattle.std.specs.Prelude.{◌≤◌, ◌≡◌};
 ghost use Rattle.text_rules.specs.Line.{words_of};
-ghost use Rattle.console_rules.specs.Station.{fits, all_fit};
-ghost use Rattle.console_station.specs.Held.{EightRead};
+ghost use Rattle.console_station.specs.Held.{narrow, eight_from, edges_in, setup_in, request_in};
+
+use console_plain::number_at;
+use planner_rules::{Request, Setup};
+
+// A number of 8 bits.
+fn byte(n: u32) -> Option<u8>
+    ensures { result ≡ narrow 8 n }
+{
+    u8::try_from(n).ok()
+}
+
+// A number of 16 bits.
+fn short(n: u32) -> Option<u16>
+    ensures { result ≡ narrow 16 n }
+{
+    u16::try_from(n).ok()
+}
+
+// The eight numbers from the k-th word on.
+fn eight_at(line: &[u8], k: usize) -> Option<[u8; 8]>
+    requires { k ≤ 12 }
+    ensures { result ≡ eight_from k (words_of line.now) }
+{
+    let mut out = [0u8; 8];
+    for i in 0..8 {
+        out[i] = byte(number_at(line, k + i))?;
+    }
+    Some(out)
+}
 
 // Near and far of a target.
-pub(crate) fn edges_held(near: u32, far: u32) -> bool
-    ensures { result ≡ (fits 16 near && fits 16 far) }
+pub(crate) fn edges_in(line: &[u8]) -> Option<(u16, u16)>
+    ensures { result ≡ edges_in (words_of line.now) }
 {
-    if 65535 < near {
-        return false;
-    }
-    far < 65536
+    let near = short(number_at(line, 2))?;
+    let far = short(number_at(line, 3))?;
+    Some((near, far))
 }
 
-// Period, reach and limit of a setup.
-pub(crate) fn sizes_held(period: u32, reach: u32, limit: u32) -> bool
-    ensures { result ≡ (fits 16 period && fits 16 reach && fits 8 limit) }
+// A setup.
+pub(crate) fn setup_in(line: &[u8]) -> Option<Setup>
+    ensures { result ≡ setup_in (words_of line.now) }
 {
-    if 65535 < period {
-        return false;
-    }
-    if 65535 < reach {
-        return false;
-    }
-    limit < 256
+    let period = short(number_at(line, 1))?;
+    let reach = short(number_at(line, 2))?;
+    let limit = byte(number_at(line, 3))?;
+    let guarantee = eight_at(line, 4)?;
+    let ceiling = eight_at(line, 12)?;
+    Some(Setup {
+        period,
+        reach,
+        limit,
+        guarantee,
+        ceiling,
+    })
 }
 
-// UF, PC, RR and DI of a request.
-fn four_held(uf: u32, pc: u32, rr: u32, di: u32) -> bool
-    ensures { result ≡ all_fit 8 (uf ∷ pc ∷ rr ∷ di ∷ []) }
+// A request with this MA, which is read as bytes; the type of its address holds all that a word says.
+pub(crate) fn request_in(line: &[u8], ma: u64) -> Option<Request>
+    ensures { result ≡ request_in ma (words_of line.now) }
 {
-    if 255 < uf {
-        return false;
-    }
-    if 255 < pc {
-        return false;
-    }
-    if 255 < rr {
-        return false;
-    }
-    di < 256
-}
-
-// The fields of a request but for its address, whose type holds all that a word says, and its MA, which is read as bytes.
-pub(crate) fn fields_held(unit: u32, uf: u32, pc: u32, rr: u32, di: u32, sd: u32) -> bool
-    ensures { result ≡ (fits 8 unit && all_fit 8 (uf ∷ pc ∷ rr ∷ di ∷ []) && fits 16 sd) }
-{
-    if 255 < unit {
-        return false;
-    }
-    if !four_held(uf, pc, rr, di) {
-        return false;
-    }
-    sd < 65536
-}
-
-// Eight numbers from the k-th word on, laid into out where each has eight bits; whether they have.
-pub(crate) fn eight_at(line: &[u8], k: usize, out: &mut [u8; 8]) -> bool
-    requires { k ≤ 12 }
-    ensures { EightRead k (words_of line.now) out.old out.new result }
-{
-    let mut i: usize = 0;
-    while i < 8 {
-        let n = console_plain::number_at(line, k + i);
-        if 255 < n {
-            return false;
-        }
-        out[i] = n as u8;
-        i += 1;
-    }
-    true
+    let unit = byte(number_at(line, 1))?;
+    let uf = byte(number_at(line, 3))?;
+    let pc = byte(number_at(line, 4))?;
+    let rr = byte(number_at(line, 5))?;
+    let di = byte(number_at(line, 6))?;
+    let sd = short(number_at(line, 7))?;
+    Some(Request {
+        unit,
+        address: number_at(line, 2),
+        uf,
+        pc,
+        rr,
+        di,
+        sd,
+        ma,
+    })
 }

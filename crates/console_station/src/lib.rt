@@ -13,5 +13,4 @@ mod requests;
 mod setting;
 mod targets;
 
-pub use console_rules::Served;
 pub use lines::put_station;

@@ -10,12 +10,12 @@ use crate::reporting::put_report;
 use crate::requests::put_request;
 use crate::setting::put_setup;
 use crate::targets::{put_move, put_remove, put_target};
-use console_rules::{Served, StationLine};
+use console_rules::StationLine;
 use station_rules::Station;
 
-// What a line says, and the station that it leaves.
-pub fn put_station(l: StationLine, line: &[u8], s: Station, out: &mut [u8]) -> Served
-    ensures { Spoke (station_spoken l s (words_of line.now)) out.old out.new result }
+// What a line says; the station is the one that it leaves.
+pub fn put_station(l: StationLine, line: &[u8], s: &mut Station, out: &mut [u8]) -> usize
+    ensures { Spoke (station_spoken l s.old (words_of line.now)) out.old out.new s.new result }
 {
     match l {
         StationLine::Setup => put_setup(line, s, out),

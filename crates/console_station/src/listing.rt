@@ -5,7 +5,6 @@ ghost use Rattle.stream_rules.specs.Lines.{followed};
 ghost use Rattle.stream.specs.Calls.{Within};
 ghost use Rattle.console_rules.specs.Station.{Spoke, target_line, targets_text, targets_spoken};
 
-use console_rules::Served;
 use numbers::live;
 use station_rules::{Station, Target};
 
@@ -24,34 +23,26 @@ fn put_target(out: &mut [u8], at: usize, t: Target) -> usize
     let near = put_word(out, at, t.address);
     let far = put_word(out, near, t.near as u32);
     let heard = put_word(out, far, t.far as u32);
-    let ac = t.ac;
-    let id = t.id;
-    stream::put_report(out, heard, ac, id)
+    stream::put_report(out, heard, t.ac, t.id)
 }
 
 // How many the first n targets are, and below that a line each.
-fn put_list(out: &mut [u8], targets: [Target; 64], n: usize) -> usize
-    ensures { Within 5400 (targets_text (take n targets)) 0 out.old out.new result }
+fn put_list(out: &mut [u8], targets: &[Target; 64], n: usize) -> usize
+    ensures { Within 5400 (targets_text (take n targets.now)) 0 out.old out.new result }
 {
     let m = live(n, 64);
     let first = text::put_bytes(out, 0, b"0 ");
     let end = text::put_decimal(out, first, m as u32);
     let mut next = text::put_byte(out, end, 10);
-    let mut i: usize = 0;
-    while i < m {
-        let t = targets[i];
+    for &t in &targets[..m] {
         next = put_target(out, next, t);
-        i += 1;
     }
     next
 }
 
 // The target list as it stands.
-pub(crate) fn put_targets(s: Station, out: &mut [u8]) -> Served
-    ensures { Spoke (targets_spoken s) out.old out.new result }
+pub(crate) fn put_targets(s: &Station, out: &mut [u8]) -> usize
+    ensures { Spoke (targets_spoken s.now) out.old out.new s.now result }
 {
-    let t = s.targets;
-    let list = t.list;
-    let size = put_list(out, list, t.n);
-    Served { size, station: s }
+    put_list(out, &s.targets.list, s.targets.n)
 }

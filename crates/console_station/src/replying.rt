@@ -5,13 +5,16 @@ ghost use Rattle.console_rules.specs.Texts.{done_text};
 ghost use Rattle.text_rules.specs.Line.{words_of};
 ghost use Rattle.parity_rules.specs.Answers.{buffers};
 ghost use Rattle.parity_rules.specs.Places.{places_in};
+ghost use Rattle.refusals.specs.Refusals.{number_given};
+ghost use Rattle.station_rules.specs.declared.state.Station.{Station};
+ghost use Rattle.station_rules.specs.Answers.{reply_as};
 ghost use Rattle.station_rules.specs.Replies.{told, received, replied};
 ghost use Rattle.console_rules.specs.Station.{Spoke, taken_text, replied_spoken, reply_spoken};
 
-use crate::answers::put_number;
-use console_rules::Served;
+use crate::answers::put_refused;
 use places::put_places;
-use station_rules::{Reply, Station};
+use refusals::Refusal;
+use station_rules::{Station, Taken};
 
 // 0, the flips, the delay, the places and the corrected message.
 fn put_values(out: &mut [u8], flips: u32, delay: i32, places: &[u8], corrected: &[u8]) -> usize
@@ -30,21 +33,19 @@ fn put_values(out: &mut [u8], flips: u32, delay: i32, places: &[u8], corrected: 
 }
 
 // What a taken reply is answered, or the refusal.
-fn put_replied(r: Reply, corrected: &[u8], places: &[u8], out: &mut [u8]) -> Served
-    requires { (length corrected.now ≤ 32) × (length places.now ≤ 32) × (r.number ≡ 0 → length (places_in places.now) ≤ 12) }
-    ensures { Spoke (replied_spoken (told r (buffers corrected.now places.now))) out.old out.new result }
+fn put_replied(r: Result<Taken, Refusal>, corrected: &[u8], places: &[u8], out: &mut [u8]) -> usize
+    requires { (length corrected.now ≤ 32) × (length places.now ≤ 32) × (number_given r ≡ 0 → length (places_in places.now) ≤ 12) }
+    ensures { (s : Station) → Spoke (replied_spoken (told (reply_as r s) (buffers corrected.now places.now))) out.old out.new s result }
 {
-    let station = r.station;
-    if r.number != 0 {
-        return put_number(r.number, station, out);
+    match r {
+        Ok(t) => put_values(out, t.flips, t.delay, places, corrected),
+        Err(refusal) => put_refused(refusal, out),
     }
-    let size = put_values(out, r.flips, r.delay, places, corrected);
-    Served { size, station }
 }
 
 // The reply, with buffers of zeros for the corrected message and the places that are as long as the message.
 fn put_taken(
-    s: Station,
+    s: &mut Station,
     entry: usize,
     tag: u32,
     msg: &[u8],
@@ -52,19 +53,19 @@ fn put_taken(
     corrected: &mut [u8],
     places: &mut [u8],
     out: &mut [u8],
-) -> Served
+) -> usize
     requires { (corrected.old ≡ replicate (length msg.now) 0) × (places.old ≡ replicate (length msg.now) 0) × (length msg.now ≤ 32) }
-    ensures { Spoke (replied_spoken (replied s
+    ensures { Spoke (replied_spoken (replied s.old
         (received entry tag msg.now marks.now (replicate (length msg.now) 0) (replicate (length msg.now) 0))))
-        out.old out.new result }
+        out.old out.new s.new result }
 {
     let r = station::take_reply(s, entry, tag, msg, marks, corrected, places);
     put_replied(r, corrected, places, out)
 }
 
 // An entry's number, a tag, a message and its marks.
-pub(crate) fn put_reply(line: &[u8], s: Station, out: &mut [u8]) -> Served
-    ensures { Spoke (reply_spoken s (words_of line.now)) out.old out.new result }
+pub(crate) fn put_reply(line: &[u8], s: &mut Station, out: &mut [u8]) -> usize
+    ensures { Spoke (reply_spoken s.old (words_of line.now)) out.old out.new s.new result }
 {
     let entry = console_plain::number_at(line, 1) as usize;
     let tag = console_plain::number_at(line, 2);

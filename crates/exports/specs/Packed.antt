@@ -1,7 +1,7 @@
 -- An answer as one number of 64 bits: document 01's number above, the value or the flips in the low 32 bits.
-use Rattle.std.specs.Prelude.{ℕ, ◌+◌, ◌*◌, ◌/◌, ◌%◌, ◌≡◌, get_or}
+use Rattle.std.specs.Prelude.{ℕ, ◌+◌, ◌*◌, ◌/◌, ◌%◌, ◌≡◌, get_or, Result}
 use Rattle.lists.specs.Answers.{Answer}
-use Rattle.parity_rules.specs.declared.answers.Fix.{Fix}
+use Rattle.refusals.specs.declared.refusal.Refusal.{Refusal}
 use Rattle.parity_rules.specs.Answers.{Buffers, Correction, fix_number, flips_of}
 
 -- an answer's number and value, 0 where it has none
@@ -13,6 +13,6 @@ abbrev pub opened : ℕ → Buffers → Correction
 opened r b = record { number = r / 4294967296; flips = r % 4294967296; buffers = b }
 
 -- p has a correction's number above and its flips below
-pub record Packs (p : ℕ) (f : Fix) : Type 0 where
+pub record Packs (p : ℕ) (f : Result ℕ Refusal) : Type 0 where
   pub number : p / 4294967296 ≡ fix_number f
   pub flips : p % 4294967296 ≡ flips_of f

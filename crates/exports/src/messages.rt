@@ -6,30 +6,16 @@ ghost use Rattle.parity_rules.specs.Overlays.{uplink_overlay, code_overlay};
 ghost use Rattle.parity_rules.specs.Correction.{correction};
 ghost use Rattle.exports.specs.Packed.{packed, opened, Packs};
 
-use parity::{Fix, Reckoned};
+use refusals::Refusal;
 
-// A reckoned number as one number.
-fn pack(r: Reckoned) -> u64
-    ensures { result ≡ packed (reckoned_said r) }
+// What a call answers as one number.
+fn pack(r: Result<u32, Refusal>) -> u64
+    ensures said { result ≡ packed (reckoned_said r) }
+    ensures parts { Packs result r }
 {
     match r {
-        Reckoned::Is(v) => v as u64,
-        Reckoned::Length => 0x1_0000_0000,
-        Reckoned::Range => 0x2_0000_0000,
-    }
-}
-
-// What became of a correction as one number.
-fn pack_fix(f: Fix) -> u64
-    ensures { Packs result f }
-{
-    match f {
-        Fix::Flips(n) => n as u64,
-        Fix::Length => 0x1_0000_0000,
-        Fix::Range => 0x2_0000_0000,
-        Fix::Marks => 0xB_0000_0000,
-        Fix::NoMatch => 0xC_0000_0000,
-        Fix::Doubt => 0xD_0000_0000,
+        Ok(v) => v as u64,
+        Err(refusal) => u8::from(refusal) as u64 * 0x1_0000_0000,
     }
 }
 
@@ -70,5 +56,5 @@ pub extern "C" fn jerungkal_correct(
     ensures { opened result (buffers out.new places.new)
         ≡ correction msg.now marks.now overlay limit (buffers out.old places.old) }
 {
-    pack_fix(parity::correct(msg, marks, overlay, limit, out, places))
+    pack(parity::correct(msg, marks, overlay, limit, out, places))
 }

@@ -46,45 +46,26 @@ fn no_entry() -> Entry
 fn starts_of(entries: [Entry; 128]) -> [u16; 128]
     ensures { result ≡ starts_of entries }
 {
-    let mut r = [0u16; 128];
-    let mut i: usize = 0;
-    while i < 128 {
-        let e = entries[i];
-        r[i] = e.start;
-        i += 1;
-    }
-    r
+    entries.map(|e| e.start)
 }
 
 fn numbers_of(entries: [Entry; 128]) -> [u64; 128]
     ensures { result ≡ numbers_of entries }
 {
-    let mut r = [0u64; 128];
-    let mut i: usize = 0;
-    while i < 128 {
-        let e = entries[i];
-        r[i] = e.ask.request.ma;
-        i += 1;
-    }
-    r
+    entries.map(|e| e.ask.request.ma)
 }
 
 #[unsafe(no_mangle)]
 pub extern "C" fn jerungkal_plan(j: PlanJob) -> PlanRows
     ensures { result ≡ rows_of (in_slots (plan j.setup (asks_of j.asks)) (replicate 128 no_entry) j.asks.list) }
 {
-    let s = j.setup;
-    let w = j.asks;
-    let e = no_entry();
-    let old = [e; 128];
-    let p = planner::make_plan(s, w, old);
-    let entries = p.entries;
-    let starts = starts_of(entries);
-    let numbers = numbers_of(entries);
+    let p = planner::make_plan(j.setup, j.asks, [no_entry(); 128]);
+    let starts = starts_of(p.entries);
+    let numbers = numbers_of(p.entries);
     PlanRows {
         placed: p.placed,
         waiting: p.waiting,
-        starts: starts,
-        numbers: numbers,
+        starts,
+        numbers,
     }
 }

@@ -1,4 +1,5 @@
 -- The texts of feet from the parts that the code lays one after the other, and what a line's words print.
+use Rattle.std.specs.Prelude.{Option, Result, Ok}
 use Prim.Native.Nat.{ℕ, ◌-◌, ◌≤◌, ◌<◌}
 use native.Mathlib.Omega.{arith}
 use mir.Syntax.{w32}
@@ -16,18 +17,24 @@ use Rattle.text_rules.specs.Number.{number_in}
 use Rattle.text_rules.proofs.Laid.{put_then, put_none}
 use Rattle.text_rules.proofs.Words.{words_next, words_end}
 use Rattle.text_rules.specs.declared.answer.Span.{Span}
-use Rattle.text_rules.specs.declared.answer.Number.{Number}
+use Rattle.refusals.specs.declared.refusal.Refusal.{Refusal}
+use Rattle.refusals.specs.Refusals.{number_given}
 use Rattle.altitude_rules.specs.declared.code.Altitude.{Altitude}
-use Rattle.altitude_rules.specs.Code.{altitude, altitude_number}
+use Rattle.altitude_rules.specs.Code.{altitude}
 use Rattle.console_rules.specs.FeetLines.{value_text, answer_text, no_code, number_text, words_text, line_text}
 
 -- ---- a code's line
+
+-- what stands behind the number of an altitude
+pub value_is : {r : Result Altitude Refusal} {a b : Altitude} {at q : ℕ} {l m : List ℕ} → r ≡ Ok a → a ≡ b → Put (value_text (Ok b)) at l m q
+    → Put (value_text r) at l m q
+value_is e f p = rw (e, f) p
 
 -- the feet as the call was handed them
 pub signed_put : (z : ℤ) {at q : ℕ} {l m : List ℕ} → SFits w32 z → Put (signed_decimal (to_z w32 (of_z w32 z))) at l m q → Put (signed_decimal z) at l m q
 signed_put z f p = rw (to_z-of_z w32 z f) at p
 
-pub answer_put : (ac : ℕ) {k : ℕ} {a : Altitude} {at r q : ℕ} {l m o : List ℕ} → a ≡ altitude ac → k ≡ altitude_number a
+pub answer_put : (ac : ℕ) {k : ℕ} {a : Result Altitude Refusal} {at r q : ℕ} {l m o : List ℕ} → a ≡ altitude ac → k ≡ number_given a
     → Put (decimal k) at l m r → Put (value_text a) r m o q → Put (answer_text (altitude ac)) at l o q
 unfolding answer_text
 answer_put ac e f x y = rw (← e, ← f) (put_then x y)
@@ -62,7 +69,7 @@ module _ (line : List ℕ) {v : Span} (ev : v ≡ word_at line 0) where
     pub two_words : w.from < w.to → Put no_code 0 l m q → Put (words_text (words_of line)) 0 l m q
     two_words k p = rw (two line v ev h w ew k) p
 
-    pub one_word : {r a : Number} → w.to ≤ w.from → r ≡ number_in 9 (take (v.to - v.from) (drop v.from line)) → r ≡ a
+    pub one_word : {r a : Option ℕ} → w.to ≤ w.from → r ≡ number_in 9 (take (v.to - v.from) (drop v.from line)) → r ≡ a
         → Put (number_text a) 0 l m q → Put (words_text (words_of line)) 0 l m q
     one_word k e f p = rw (one line v ev h w ew k, ← e, f) p
 

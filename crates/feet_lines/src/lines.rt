@@ -4,24 +4,22 @@ ghost use Rattle.text_rules.specs.Line.{words_of};
 ghost use Rattle.altitude_rules.specs.Code.{altitude};
 ghost use Rattle.console_rules.specs.FeetLines.{value_text, answer_text, code_text, words_text, line_text};
 
-use altitude::{number, read};
 use altitude_rules::Altitude;
-use text_rules::Number;
+use refusals::Refusal;
 
 // What stands behind the answer's number, and the line's end.
-fn put_value(out: &mut [u8], at: usize, a: Altitude) -> usize
+fn put_value(out: &mut [u8], at: usize, a: Result<Altitude, Refusal>) -> usize
     ensures { Put (value_text a) at out.old out.new result }
 {
     match a {
-        Altitude::Feet(z) => {
+        Ok(Altitude::Feet(z)) => {
             let sign = text::put_byte(out, at, 32);
             let end = text::put_signed(out, sign, z);
             text::put_byte(out, end, 10)
         }
-        Altitude::None => text::put_bytes(out, at, b" none\n"),
-        Altitude::Metric => text::put_bytes(out, at, b" metric\n"),
-        Altitude::Range => text::put_byte(out, at, 10),
-        Altitude::Illegal => text::put_byte(out, at, 10),
+        Ok(Altitude::None) => text::put_bytes(out, at, b" none\n"),
+        Ok(Altitude::Metric) => text::put_bytes(out, at, b" metric\n"),
+        Err(_) => text::put_byte(out, at, 10),
     }
 }
 
@@ -29,8 +27,8 @@ fn put_value(out: &mut [u8], at: usize, a: Altitude) -> usize
 pub fn put_answer(out: &mut [u8], at: usize, ac: u32) -> usize
     ensures { Put (answer_text (altitude ac)) at out.old out.new result }
 {
-    let a = read(ac);
-    let value = text::put_decimal(out, at, number(a));
+    let a = altitude::read(ac);
+    let value = text::put_decimal(out, at, refusals::number_given(&a) as u32);
     put_value(out, value, a)
 }
 
@@ -58,8 +56,8 @@ fn put_words(line: &[u8], out: &mut [u8]) -> usize
         return text::put_bytes(out, 0, b"- 2\n");
     }
     match text::number(&line[from..to], 9) {
-        Number::Is(ac) => put_code(out, ac),
-        Number::Not => text::put_bytes(out, 0, b"- 2\n"),
+        Some(ac) => put_code(out, ac),
+        None => text::put_bytes(out, 0, b"- 2\n"),
     }
 }
 

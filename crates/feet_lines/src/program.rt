@@ -2,14 +2,12 @@
 use crate::lines::feet_line;
 use std::io::Read;
 
-// Prints what feet says of each line that comes, until the input ends or a write fails. The turns are counted down from a number that no run
-// uses up, since nothing says that an input ends.
+// Prints what feet says of each line that comes, until the input ends or a write fails. Nothing says that an input ends, so the turns are bounded.
 pub fn run<R: Read>(rt: &(impl Print + Eprint), source: &mut R, piece: &mut [u8]) {
     let mut line = [0u8; 1001];
     let mut out = [0u8; 32];
     let mut f = inputs::start();
-    let mut turns = u64::MAX;
-    while 0 < turns {
+    for _ in 0..u64::MAX {
         f = inputs::next_line(rt, source, f, piece, &mut line);
         if !f.is_line {
             return;
@@ -19,6 +17,5 @@ pub fn run<R: Read>(rt: &(impl Print + Eprint), source: &mut R, piece: &mut [u8]
         if !inputs::print(rt, &out[..size]) {
             return;
         }
-        turns -= 1;
     }
 }

@@ -3,8 +3,6 @@ ghost use Rattle.std.specs.Prelude.{◌≡◌, ◌<◌};
 ghost use Rattle.frames_rules.specs.Answers.{address_said};
 ghost use Rattle.frames_rules.specs.Addresses.{quotient_of, address_told};
 
-use frames_rules::Address;
-
 // The quotient of a remainder times x^24 by the generator.
 fn quotient(remainder: u32) -> u32
     requires { remainder < 16777216 }
@@ -12,22 +10,20 @@ fn quotient(remainder: u32) -> u32
 {
     let mut q: u32 = 0;
     let mut r = remainder;
-    let mut i: usize = 0;
-    while i < 24 {
+    for _ in 0..24u32 {
         let b = r / 0x80_0000;
         q = q * 2 + b;
         r = (r * 2) ^ (b * 0x1FF_F409);
-        i += 1;
     }
     q
 }
 
 // The number of 24 bits whose uplink overlay this is; nobody above 24 bits.
-pub fn address_of(remainder: u32) -> Address
+pub fn address_of(remainder: u32) -> Option<u32>
     ensures { address_said result ≡ address_told remainder }
 {
     if 0x100_0000 <= remainder {
-        return Address::Nobody;
+        return None;
     }
-    Address::Is(quotient(remainder))
+    Some(quotient(remainder))
 }

@@ -7,7 +7,7 @@ ghost use Rattle.frames_rules.specs.Building.{is_address, selective_ranged, all_
 use crate::bytes::number_in;
 use crate::formats::{length_of, long_format, surveillance};
 use crate::frame::{overlay_of, write};
-use frames_rules::Built;
+use refusals::Refusal;
 
 // Whether a number is an address: 1 to 16,777,214.
 pub fn is_address(a: u32) -> bool
@@ -68,25 +68,22 @@ pub fn build(
     ma: &[u8],
     address: u32,
     out: &mut [u8],
-) -> Built
+) -> Result<(), Refusal>
     ensures { built_said result out.new ≡ building uf pc rr di sd ma.now address out.old }
 {
     if !surveillance(uf) {
-        return Built::Range;
+        return Err(Refusal::Range);
     }
-    if out.len() != length_of(uf) {
-        return Built::Length;
-    }
-    if ma.len() != 7 {
-        return Built::Length;
+    if out.len() != length_of(uf) || ma.len() != 7 {
+        return Err(Refusal::Length);
     }
     let mid = number_in(ma);
     if !selective_ranged(uf, pc, rr, di, sd, mid, address) {
-        return Built::Range;
+        return Err(Refusal::Range);
     }
     let head = selective_head(uf, pc, rr, di, sd);
     write(head, mid, overlay_of(address), out);
-    Built::Done
+    Ok(())
 }
 
 // Whether the numbers of an all-call are in their ranges.
@@ -111,15 +108,15 @@ fn all_call_head(pr: u32, ic: u32, cl: u32) -> u32
 }
 
 // Builds UF 11.
-pub fn all_call(pr: u32, ic: u32, cl: u32, out: &mut [u8]) -> Built
+pub fn all_call(pr: u32, ic: u32, cl: u32, out: &mut [u8]) -> Result<(), Refusal>
     ensures { built_said result out.new ≡ all_calling pr ic cl out.old }
 {
     if out.len() != 7 {
-        return Built::Length;
+        return Err(Refusal::Length);
     }
     if !all_call_ranged(pr, ic, cl) {
-        return Built::Range;
+        return Err(Refusal::Range);
     }
     write(all_call_head(pr, ic, cl), 0, overlay_of(0xFF_FFFF), out);
-    Built::Done
+    Ok(())
 }

@@ -9,10 +9,8 @@ pub(crate) fn number_in(s: &[u8]) -> u64
     ensures { (result ≡ number_of_bytes s.now) × (result < 2 ^ (8 * length s.now)) }
 {
     let mut r: u64 = 0;
-    let mut i: usize = 0;
-    while i < s.len() {
-        r = r * 256 + s[i] as u64;
-        i += 1;
+    for &b in s {
+        r = r * 256 + b as u64;
     }
     r
 }
@@ -32,10 +30,5 @@ pub(crate) fn put(v: u64, n: usize, at: usize, out: &mut [u8])
     requires { (n ≤ 7) × (at + n ≤ length out.old) }
     ensures { out.new ≡ sets out.old at (bytes_of n v) }
 {
-    let mut i: usize = 0;
-    while i < n {
-        let k = (8 * (n - 1 - i)) as u32;
-        out[at + i] = ((v >> k) % 256) as u8;
-        i += 1;
-    }
+    out[at..at + n].copy_from_slice(&v.to_be_bytes()[8 - n..]);
 }

@@ -4,8 +4,6 @@ ghost use Rattle.frames_rules.specs.Answers.{draws_said};
 ghost use Rattle.frames_rules.specs.Formats.{surveillance, long_format, length_of, listed};
 ghost use Rattle.frames_rules.specs.Shared.{short_reply, drawn_told};
 
-use frames_rules::Draws;
-
 // Whether a format is one of 20 and 21.
 pub(crate) fn long_format(f: u32) -> bool
     ensures { result ≡ long_format f }
@@ -66,17 +64,14 @@ fn short_reply(uf: u32) -> u8
 }
 
 // The format of the reply that a request draws; nothing for another UF or an RR above 31.
-pub fn drawn(uf: u32, rr: u32) -> Draws
+pub fn drawn(uf: u32, rr: u32) -> Option<u8>
     ensures { draws_said result ≡ drawn_told uf rr }
 {
-    if !surveillance(uf) {
-        return Draws::Nothing;
-    }
-    if 31 < rr {
-        return Draws::Nothing;
+    if !surveillance(uf) || 31 < rr {
+        return None;
     }
     if 16 <= rr {
-        return Draws::Format(short_reply(uf) + 16);
+        return Some(short_reply(uf) + 16);
     }
-    Draws::Format(short_reply(uf))
+    Some(short_reply(uf))
 }

@@ -7,7 +7,6 @@ ghost use Rattle.frames_rules.specs.Shared.{code_number};
 
 use crate::bytes::put;
 use crate::message::remainder_of;
-use parity::Reckoned;
 
 // Writes all but the parity.
 fn fill(head: u32, mid: u64, out: &mut [u8])
@@ -46,11 +45,7 @@ pub(crate) fn overlay_of(address: u32) -> u32
     requires { address < 16777216 }
     ensures { result ≡ overlay_of address }
 {
-    match parity::uplink_overlay(address) {
-        Reckoned::Is(v) => v,
-        Reckoned::Length => 0,
-        Reckoned::Range => 0,
-    }
+    parity::uplink_overlay(address).unwrap()
 }
 
 // The overlay of a code in DF 11.
@@ -58,9 +53,5 @@ pub(crate) fn code_overlay(cl: u32, ic: u32) -> u32
     requires { (cl < 8) × (ic < 16) }
     ensures { result ≡ code_number cl ic }
 {
-    match parity::code_overlay(cl, ic) {
-        Reckoned::Is(v) => v,
-        Reckoned::Length => 0,
-        Reckoned::Range => 0,
-    }
+    parity::code_overlay(cl, ic).unwrap()
 }

@@ -5,7 +5,6 @@ ghost use Rattle.parity_rules.specs.Division.{remainder_of};
 ghost use Rattle.frames_rules.specs.Fields.{head_of, mid_of};
 
 use crate::bytes::number_in;
-use parity::Reckoned;
 
 // Bits 1 to 32.
 pub(crate) fn head_of(msg: &[u8]) -> u32
@@ -30,9 +29,5 @@ pub(crate) fn remainder_of(msg: &[u8]) -> u32
     requires { seven_or_fourteen (length msg.now) ≡ true }
     ensures { (result ≡ remainder_of (bits msg.now)) × (result < 16777216) }
 {
-    match parity::remainder(msg) {
-        Reckoned::Is(r) => r,
-        Reckoned::Length => 0,
-        Reckoned::Range => 0,
-    }
+    parity::remainder(msg).unwrap()
 }

@@ -7,7 +7,7 @@ ghost use Rattle.frames_rules.specs.Building.{reply_ranged, all_call_reply_range
 use crate::builders::is_address;
 use crate::formats::{length_of, long_format, surveillance};
 use crate::frame::{code_overlay, write};
-use frames_rules::Built;
+use refusals::Refusal;
 
 // Whether the numbers of a surveillance reply are in their ranges.
 fn reply_ranged(df: u32, fs: u32, dr: u32, um: u32, value: u32, mb: u64, address: u32) -> bool
@@ -55,20 +55,20 @@ pub fn reply(
     mb: u64,
     address: u32,
     out: &mut [u8],
-) -> Built
+) -> Result<(), Refusal>
     ensures { built_said result out.new ≡ replying df fs dr um value mb address out.old }
 {
     if !surveillance(df) {
-        return Built::Range;
+        return Err(Refusal::Range);
     }
     if out.len() != length_of(df) {
-        return Built::Length;
+        return Err(Refusal::Length);
     }
     if !reply_ranged(df, fs, dr, um, value, mb, address) {
-        return Built::Range;
+        return Err(Refusal::Range);
     }
     write(reply_head(df, fs, dr, um, value), mb, address, out);
-    Built::Done
+    Ok(())
 }
 
 // Whether the numbers of an all-call reply are in their ranges.
@@ -96,14 +96,20 @@ fn all_call_reply_head(ca: u32, address: u32) -> u32
 }
 
 // Builds DF 11 of an address, for the code of an interrogator.
-pub fn all_call_reply(ca: u32, address: u32, cl: u32, ic: u32, out: &mut [u8]) -> Built
+pub fn all_call_reply(
+    ca: u32,
+    address: u32,
+    cl: u32,
+    ic: u32,
+    out: &mut [u8],
+) -> Result<(), Refusal>
     ensures { built_said result out.new ≡ all_call_replying ca address cl ic out.old }
 {
     if out.len() != 7 {
-        return Built::Length;
+        return Err(Refusal::Length);
     }
     if !all_call_reply_ranged(ca, address, cl, ic) {
-        return Built::Range;
+        return Err(Refusal::Range);
     }
     write(
         all_call_reply_head(ca, address),
@@ -111,5 +117,5 @@ pub fn all_call_reply(ca: u32, address: u32, cl: u32, ic: u32, out: &mut [u8]) -
         code_overlay(cl, ic),
         out,
     );
-    Built::Done
+    Ok(())
 }

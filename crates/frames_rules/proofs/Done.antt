@@ -5,12 +5,12 @@ use mathlib.Core.List.{List, [], ◌∷◌}
 use Prim.Native.Nat.{ℕ}
 use lib.ListN.{length}
 use borrow.Author.Tests.{eq-eqb}
+use Rattle.std.specs.Prelude.{Result, Ok}
 use Rattle.lists.specs.Checks.{Check, checked, None}
 use Rattle.lists.specs.Answers.{done}
 use Rattle.lists.proofs.Tests.{and_yes}
 use Rattle.lists.proofs.Checks.{all, end, not_off}
-use Rattle.frames_rules.specs.declared.answers.Built.{Built}
-use Rattle.frames_rules.specs.declared.answers.Built.TheVariants.{Done}
+use Rattle.refusals.specs.declared.refusal.Refusal.{Refusal}
 use Rattle.frames_rules.specs.declared.answers.Up.{Up}
 use Rattle.frames_rules.specs.declared.answers.Up.TheVariants as up
 use Rattle.frames_rules.specs.declared.answers.Down.{Down}
@@ -25,51 +25,55 @@ use Rattle.frames_rules.specs.Reading.{read_up, read_down}
 use Rattle.frames_rules.proofs.Unique.{built_one, up_one, down_one}
 
 -- ---- builders
-module _ (out out' : List ℕ) (b : Built) where
-  is_done : (cs : List Check) (x : List ℕ) → None cs → built_said b out' ≡ checked cs (not_built out) (holding x) → (b ≡ Done) × (out' ≡ x)
-  is_done cs x h e = built_one b Done out' x (e ∙ sym (end (not_built out) (holding x) all h))
+module _ (out out' : List ℕ) (b : Result (Unit {0}) Refusal) where
+  is_done : (cs : List Check) (x : List ℕ) → None cs → built_said b out' ≡ checked cs (not_built out) (holding x) → (b ≡ Ok tt) × (out' ≡ x)
+  is_done cs x h e = built_one b (Ok tt) out' x (e ∙ sym (end (not_built out) (holding x) all h))
 
-pub build_done : (uf pc rr di sd : ℕ) (ma : List ℕ) (address : ℕ) (out out' : List ℕ) (b : Built)
+pub build_done : (uf pc rr di sd : ℕ) (ma : List ℕ) (address : ℕ) (out out' : List ℕ) (b : Result (Unit {0}) Refusal)
     → surveillance uf ≡ true → length out ≡ length_of uf → length ma ≡ 7 → selective_ranged uf pc rr di sd (number_of_bytes ma) address ≡ true
-    → built_said b out' ≡ building uf pc rr di sd ma address out → (b ≡ Done) × (out' ≡ selective uf pc rr di sd (number_of_bytes ma) address)
+    → built_said b out' ≡ building uf pc rr di sd ma address out → (b ≡ Ok tt) × (out' ≡ selective uf pc rr di sd (number_of_bytes ma) address)
 unfolding building
 build_done uf pc rr di sd ma address out out' b f l n r e =
     is_done out out' b (building_checks uf pc rr di sd ma address out) _
     (not_off _ f, (not_off _ (and_yes _ _ (eq-eqb (length out) (length_of uf) l) (eq-eqb (length ma) 7 n)), (not_off _ r, tt))) e
 
-pub all_call_done : (pr ic cl : ℕ) (out out' : List ℕ) (b : Built) → length out ≡ 7 → all_call_ranged pr ic cl ≡ true
-    → built_said b out' ≡ all_calling pr ic cl out → (b ≡ Done) × (out' ≡ all_call pr ic cl)
+pub all_call_done : (pr ic cl : ℕ) (out out' : List ℕ) (b : Result (Unit {0}) Refusal) → length out ≡ 7 → all_call_ranged pr ic cl ≡ true
+    → built_said b out' ≡ all_calling pr ic cl out → (b ≡ Ok tt) × (out' ≡ all_call pr ic cl)
 unfolding all_calling
 all_call_done pr ic cl out out' b l r e =
     is_done out out' b (all_calling_checks pr ic cl out) _ (not_off _ (eq-eqb (length out) 7 l), (not_off _ r, tt)) e
 
-pub reply_done : (df fs dr um value mb address : ℕ) (out out' : List ℕ) (b : Built)
+pub reply_done : (df fs dr um value mb address : ℕ) (out out' : List ℕ) (b : Result (Unit {0}) Refusal)
     → surveillance df ≡ true → length out ≡ length_of df → reply_ranged df fs dr um value mb address ≡ true
-    → built_said b out' ≡ replying df fs dr um value mb address out → (b ≡ Done) × (out' ≡ a_reply df fs dr um value mb address)
+    → built_said b out' ≡ replying df fs dr um value mb address out → (b ≡ Ok tt) × (out' ≡ a_reply df fs dr um value mb address)
 unfolding replying
 reply_done df fs dr um value mb address out out' b f l r e =
     is_done out out' b (replying_checks df fs dr um value mb address out) _
     (not_off _ f, (not_off _ (eq-eqb (length out) (length_of df) l), (not_off _ r, tt))) e
 
-pub all_call_reply_done : (ca address cl ic : ℕ) (out out' : List ℕ) (b : Built) → length out ≡ 7 → all_call_reply_ranged ca address cl ic ≡ true
-    → built_said b out' ≡ all_call_replying ca address cl ic out → (b ≡ Done) × (out' ≡ an_all_call_reply ca address cl ic)
+pub all_call_reply_done : (ca address cl ic : ℕ) (out out' : List ℕ) (b : Result (Unit {0}) Refusal) → length out ≡ 7
+    → all_call_reply_ranged ca address cl ic ≡ true
+    → built_said b out' ≡ all_call_replying ca address cl ic out → (b ≡ Ok tt) × (out' ≡ an_all_call_reply ca address cl ic)
 unfolding all_call_replying
 all_call_reply_done ca address cl ic out out' b l r e =
     is_done out out' b (all_call_replying_checks ca address cl ic out) _ (not_off _ (eq-eqb (length out) 7 l), (not_off _ r, tt)) e
 
 -- ---- readers: the answer is the case that its values tell
-pub selective_read_is : (u : Up) (m : List ℕ) (uf pc rr di sd ma r : ℕ) → up_said u ≡ read_up m → read_up m ≡ done (uf ∷ pc ∷ rr ∷ di ∷ sd ∷ ma ∷ r ∷ [])
-    → u ≡ up.Selective uf pc rr di sd ma r
-selective_read_is u m uf pc rr di sd ma r e f = up_one u (up.Selective uf pc rr di sd ma r) (e ∙ f)
+pub selective_read_is : (u : Result Up Refusal) (m : List ℕ) (uf pc rr di sd ma r : ℕ) → up_said u ≡ read_up m
+    → read_up m ≡ done (uf ∷ pc ∷ rr ∷ di ∷ sd ∷ ma ∷ r ∷ [])
+    → u ≡ Ok (up.Selective uf pc rr di sd ma r)
+selective_read_is u m uf pc rr di sd ma r e f = up_one u (Ok (up.Selective uf pc rr di sd ma r)) (e ∙ f)
 
-pub all_call_read_is : (u : Up) (m : List ℕ) (pr ic cl r : ℕ) → up_said u ≡ read_up m → read_up m ≡ done (11 ∷ pr ∷ ic ∷ cl ∷ r ∷ []) → u ≡ up.AllCall pr ic cl r
-all_call_read_is u m pr ic cl r e f = up_one u (up.AllCall pr ic cl r) (e ∙ f)
+pub all_call_read_is : (u : Result Up Refusal) (m : List ℕ) (pr ic cl r : ℕ) → up_said u ≡ read_up m → read_up m ≡ done (11 ∷ pr ∷ ic ∷ cl ∷ r ∷ [])
+    → u ≡ Ok (up.AllCall pr ic cl r)
+all_call_read_is u m pr ic cl r e f = up_one u (Ok (up.AllCall pr ic cl r)) (e ∙ f)
 
-pub surveillance_read_is : (d : Down) (m : List ℕ) (df fs dr um value mb r : ℕ) → down_said d ≡ read_down m
+pub surveillance_read_is : (d : Result Down Refusal) (m : List ℕ) (df fs dr um value mb r : ℕ) → down_said d ≡ read_down m
     → read_down m ≡ done (df ∷ fs ∷ dr ∷ um ∷ value ∷ mb ∷ r ∷ [])
-    → d ≡ down.Surveillance df fs dr um value mb r
-surveillance_read_is d m df fs dr um value mb r e f = down_one d (down.Surveillance df fs dr um value mb r) (e ∙ f)
+    → d ≡ Ok (down.Surveillance df fs dr um value mb r)
+surveillance_read_is d m df fs dr um value mb r e f = down_one d (Ok (down.Surveillance df fs dr um value mb r)) (e ∙ f)
 
-pub all_call_reply_read_is : (d : Down) (m : List ℕ) (ca address r : ℕ) → down_said d ≡ read_down m → read_down m ≡ done (11 ∷ ca ∷ address ∷ r ∷ [])
-    → d ≡ down.AllCall ca address r
-all_call_reply_read_is d m ca address r e f = down_one d (down.AllCall ca address r) (e ∙ f)
+pub all_call_reply_read_is : (d : Result Down Refusal) (m : List ℕ) (ca address r : ℕ) → down_said d ≡ read_down m
+    → read_down m ≡ done (11 ∷ ca ∷ address ∷ r ∷ [])
+    → d ≡ Ok (down.AllCall ca address r)
+all_call_reply_read_is d m ca address r e f = down_one d (Ok (down.AllCall ca address r)) (e ∙ f)

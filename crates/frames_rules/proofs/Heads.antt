@@ -41,7 +41,8 @@ module _ (uf pc rr di sd : ℕ) (hu : uf < 32) (hp : pc < 8) (hr : rr < 32) (hd 
       let e : value_at at_sd (selective_head uf pc rr di sd) ≡ sd = omega arith in
       cc
 
-pub selective_again : (h : ℕ) → h < 4294967296 → selective_head (value_at at_uf h) (value_at at_pc h) (value_at at_rr h) (value_at at_di h) (value_at at_sd h) ≡ h
+pub selective_again : (h : ℕ) → h < 4294967296
+    → selective_head (value_at at_uf h) (value_at at_pc h) (value_at at_rr h) (value_at at_di h) (value_at at_sd h) ≡ h
 unfolding selective_head
 selective_again h l =
     join_five h (h / 134217728) (h / 16777216) (h / 524288) (h / 65536) (h / 134217728 % 32) (h / 16777216 % 8) (h / 524288 % 32) (h / 65536 % 8)

@@ -6,14 +6,17 @@ use mathlib.Core.Bool.{Bool, true, false, not, ◌||◌}
 use mathlib.Core.List.{List}
 use lib.Dec.{eqb}
 use lib.ListN.{length}
+use Rattle.std.specs.Prelude.{Result, Ok, Err}
 use Rattle.lists.specs.Lists.{pick}
 use borrow.Author.Tests.{not-false}
-use Rattle.lists.specs.Checks.{Check, checked}
+use Rattle.lists.specs.Checks.{checked}
 use Rattle.lists.specs.Answers.{refusal}
 use Rattle.lists.proofs.Checks.{CameTo, was_refused, was_done, came_to}
 use Rattle.lists.proofs.Tests.{and_true}
 use Rattle.parity_rules.specs.Messages.{bits, seven_or_fourteen}
 use Rattle.parity_rules.specs.Division.{remainder_of}
+use Rattle.refusals.specs.declared.refusal.Refusal.{Refusal}
+use Rattle.refusals.specs.declared.refusal.Refusal.TheVariants as refused
 use Rattle.frames_rules.specs.declared.answers.Up.{Up}
 use Rattle.frames_rules.specs.declared.answers.Up.TheVariants as up
 use Rattle.frames_rules.specs.Answers.{up_said}
@@ -24,8 +27,8 @@ use Rattle.frames_rules.specs.Interrogations.{selective_of, all_call_of, unread,
 use Rattle.frames_rules.proofs.Unique.{up_one}
 
 module _ (m : List ℕ) where
-  abbrev read : Up
-  read = pick (eqb (format_of m) 11) (all_call_of (head_of m) (remainder_of (bits m))) (selective_of (head_of m) (mid_of m) (remainder_of (bits m)))
+  abbrev read : Result Up Refusal
+  read = Ok (pick (eqb (format_of m) 11) (all_call_of (head_of m) (remainder_of (bits m))) (selective_of (head_of m) (mid_of m) (remainder_of (bits m))))
 
   -- what reading it answers
   pub up_said_is : up_said (up_of m) ≡ read_up m
@@ -39,41 +42,33 @@ module _ (m : List ℕ) where
       selective = selective_of (head_of m) (mid_of m) (remainder_of (bits m))
 
       go : (x y z : Bool)
-          → up_said (pick x up.Length (pick y up.Format (pick z all_call_law selective)))
-          ≡ pick x (refusal 1) (pick y (refusal 14) (pick z (up_said all_call_law) (up_said selective)))
+          → up_said (pick x (Err refused.Length) (pick y (Err refused.Format) (Ok (pick z all_call_law selective))))
+          ≡ pick x (refusal 1) (pick y (refusal 14) (pick z (up_said (Ok all_call_law)) (up_said (Ok selective))))
       go true y z = refl
       go false true z = refl
       go false false true = refl
       go false false false = refl
 
-  pub up_is : (u : Up) → up_said u ≡ read_up m → u ≡ up_of m
+  pub up_is : (u : Result Up Refusal) → up_said u ≡ read_up m → u ≡ up_of m
   up_is u e = up_one u (up_of m) (e ∙ sym up_said_is)
 
 -- a selective interrogation has a UF that is listed and an RR of 5 bits
-abbrev pub InFields : Up → Type 0
-InFields (up.Selective uf pc rr di sd ma r) = (surveillance uf ≡ true) × (rr ≤ 31)
-InFields (up.AllCall pr ic cl r) = Unit {0}
-InFields up.Length = Unit {0}
-InFields up.Format = Unit {0}
-
-unread_fields : (c : Check) → InFields (unread c)
-unread_fields c = go (eqb c.number 1)
-  where
-    go : (b : Bool) → InFields (pick b up.Length up.Format)
-    go true = tt
-    go false = tt
+abbrev pub InFields : Result Up Refusal → Type 0
+InFields (Ok (up.Selective uf pc rr di sd ma r)) = (surveillance uf ≡ true) × (rr ≤ 31)
+InFields (Ok (up.AllCall pr ic cl r)) = Unit {0}
+InFields (Err r) = Unit {0}
 
 pub in_fields : (m : List ℕ) → InFields (up_of m)
 unfolding up_of
 in_fields m = go (up_of m) (came_to unread (read m) (read_checks m) refl)
   where
     by_format : (z : Bool) → eqb (format_of m) 11 ≡ z → eqb (format_of m) 11 || surveillance (format_of m) ≡ true
-        → InFields (pick z (all_call_of (head_of m) (remainder_of (bits m))) (selective_of (head_of m) (mid_of m) (remainder_of (bits m))))
+        → InFields (Ok (pick z (all_call_of (head_of m) (remainder_of (bits m))) (selective_of (head_of m) (mid_of m) (remainder_of (bits m)))))
     by_format true q l = tt
     by_format false q l = (rw q at l, omega arith)
 
-    go : (u : Up) → CameTo (read_checks m) unread (read m) u → InFields u
-    go u (was_refused c z e g w) = subst InFields (sym w) (unread_fields c)
+    go : (u : Result Up Refusal) → CameTo (read_checks m) unread (read m) u → InFields u
+    go u (was_refused c z e g w) = subst InFields (sym w) tt
     go u (was_done p g w) =
         subst InFields (sym w)
         (by_format (eqb (format_of m) 11) refl

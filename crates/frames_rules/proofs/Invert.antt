@@ -11,6 +11,7 @@ use lib.Dec.{ltb}
 use lib.ListN.{length}
 use lib.Pow.{high}
 use borrow.Author.Tests.{ltb-true, ltb-false, lt-ltb, le-ltb}
+use Rattle.std.specs.Prelude.{Option, Some, None}
 use Rattle.lists.proofs.Xor.{xor_swap, xor_move}
 use Rattle.parity_rules.specs.Messages.{AreBits}
 use Rattle.lists.specs.Lists.{spelled, All}
@@ -18,8 +19,6 @@ use Rattle.parity_rules.specs.Division.{generator, shift_in}
 use Rattle.parity_rules.specs.Overlays.{low_bits, times, overlay_of}
 use Rattle.parity_rules.proofs.Uplink.{double_xor, overlay_one}
 use Rattle.parity_rules.proofs.Laws.{overlay_lt}
-use Rattle.frames_rules.specs.declared.answers.Address.{Address}
-use Rattle.frames_rules.specs.declared.answers.Address.TheVariants.{Is, Nobody}
 use Rattle.frames_rules.specs.Addresses.{quotient_bits, quotient_of, address_of}
 use Rattle.frames_rules.proofs.Quotient.{step_is, step_lt}
 
@@ -121,9 +120,9 @@ module _ (r : ℕ) (h : r < 16777216) where
 
 -- ---- what `address_of` says
 -- the number found is below 2^24 and has this overlay; where nobody is named, no number of 24 bits has it
-abbrev pub Found : ℕ → Address → Type 0
-Found r (Is a) = (a < 16777216) × (overlay_of a ≡ r)
-Found r Nobody = (a : ℕ) → a < 16777216 → overlay_of a ≡ r → ⊥
+abbrev pub Found : ℕ → Option ℕ → Type 0
+Found r (Some a) = (a < 16777216) × (overlay_of a ≡ r)
+Found r None = (a : ℕ) → a < 16777216 → overlay_of a ≡ r → ⊥
 
 pub address_found : (r : ℕ) → Found r (address_of r)
 unfolding address_of
@@ -134,26 +133,27 @@ address_found r = go (ltb r 16777216) refl
     go false t = let h = ltb-false r 16777216 t in rw t (λ a l e. omega (arith, overlay_lt a))
 
 -- every remainder of 24 bits has one
-pub address_every : (r : ℕ) → r < 16777216 → address_of r ≡ Is (quotient_of r)
+pub address_every : (r : ℕ) → r < 16777216 → address_of r ≡ Some (quotient_of r)
 unfolding address_of
 address_every r h = rw (lt-ltb r 16777216 h)
 
 -- and no greater one has
-pub address_none : (r : ℕ) → 16777216 ≤ r → address_of r ≡ Nobody
+pub address_none : (r : ℕ) → 16777216 ≤ r → address_of r ≡ None
 unfolding address_of
 address_none r h = rw (le-ltb r 16777216 h)
 
 -- and the address of a number's overlay is that number: from a built frame the address is found again
-pub address_back : (a : ℕ) → a < 16777216 → address_of (overlay_of a) ≡ Is a
+pub address_back : (a : ℕ) → a < 16777216 → address_of (overlay_of a) ≡ Some a
 address_back a h =
     address_every (overlay_of a) (overlay_lt a)
-    ∙ ap Is (overlay_one (quotient_of (overlay_of a)) a (quotient_lt (overlay_of a) (overlay_lt a)) h (overlay_quotient (overlay_of a) (overlay_lt a)))
+    ∙ ap (λ (x : ℕ). Some x)
+    (overlay_one (quotient_of (overlay_of a)) a (quotient_lt (overlay_of a) (overlay_lt a)) h (overlay_quotient (overlay_of a) (overlay_lt a)))
 
 -- what is found is the only one
-pub address_only : (r : ℕ) (x : Address) → Found r x → x ≡ address_of r
-address_only r (Is a) f = sym (address_back a f.0) ∙ ap address_of f.1
-address_only r Nobody f = go (ltb r 16777216) refl
+pub address_only : (r : ℕ) (x : Option ℕ) → Found r x → x ≡ address_of r
+address_only r (Some a) f = sym (address_back a f.0) ∙ ap address_of f.1
+address_only r None f = go (ltb r 16777216) refl
   where
-    go : (t : Bool) → ltb r 16777216 ≡ t → Nobody ≡ address_of r
+    go : (t : Bool) → ltb r 16777216 ≡ t → None ≡ address_of r
     go true t = let h = ltb-true r 16777216 t in absurd (f (quotient_of r) (quotient_lt r h) (overlay_quotient r h))
     go false t = sym (address_none r (ltb-false r 16777216 t))

@@ -84,7 +84,8 @@ seal_law s one two r overlay h e q f =
     ∙ ap₂ (λ (l : List ℕ) (k : ℕ). l ++ bytes_of 3 (bit_xor k overlay)) t (q ∙ ap (λ (l : List ℕ). remainder_of (bits l)) a)
 
 -- ---- the whole frame
-module _ (s : List ℕ) (head mid : ℕ) (one : List ℕ) (h : seven_or_fourteen (length s) ≡ true) (e : one ≡ front (length s) head mid ++ drop (length s - 3) s) where
+module _ (s : List ℕ) (head mid : ℕ) (one : List ℕ) (h : seven_or_fourteen (length s) ≡ true)
+    (e : one ≡ front (length s) head mid ++ drop (length s - 3) s) where
   pub filled_length : length one ≡ length s
   filled_length =
       omega (

@@ -1,14 +1,13 @@
 -- Numbers as bytes: the steps of the loops that read and write them, and the two ways undo each other.
 use mathlib.Core.Path.{◌≡◌, refl, sym, ap, ap₂, ◌∙◌}
 use mathlib.Core.List.{List, [], ◌∷◌}
-use Prim.Native.Nat.{ℕ, zero, suc, ◌+◌, ◌-◌, ◌*◌, ◌/◌, ◌%◌, ◌^◌, ◌<◌, ◌≤◌}
+use Prim.Native.Nat.{ℕ, zero, suc, ◌+◌, ◌*◌, ◌/◌, ◌%◌, ◌^◌, ◌<◌, ◌≤◌}
 use native.Mathlib.Nat.{lt_of_lt_of_le, add-mul, mul_assoc, add_assoc, mod-eq_of_lt}
-use native.Mathlib.Numerals.{add-one}
 use native.Mathlib.Omega.{arith}
-use lib.ListN.{length, get_or, set, take, drop}
+use lib.ListN.{length, take}
 use lib.Arith.{digits_lt, digits_mod}
 use lib.Pow.{pow-add, pow_mono, mod-pow-add, high}
-use lib.Seq.{drop-cons, sets, take_all}
+use lib.Seq.{take_all}
 use Rattle.parity_rules.specs.Messages.{AreBytes}
 use Rattle.frames_rules.specs.Bytes.{bytes_of, followed, number_of_bytes}
 use Rattle.lists.specs.Lists.{All}
@@ -24,24 +23,12 @@ eight i = let e : 8 * (i + 1) ≡ 8 * i + 8 = omega arith in rw e (pow-add 2 (8 
 pub byte_on : (r b i : ℕ) → r < 2 ^ (8 * i) → b < 256 → r * 256 + b < 2 ^ (8 * (i + 1))
 byte_on r b i hr hb = rw (eight i) (widen r b (2 ^ (8 * i)) hr hb)
 
-pub turn : (s : List ℕ) (i r : ℕ) → i < length s → followed (r * 256 + get_or s i 0) (drop (i + 1) s) ≡ followed r (drop i s)
-turn s i r h = rw (add-one i, drop-cons s i 0 h)
-
 -- a number of fewer than seven bytes has 48 bits
 pub room : (r i : ℕ) → i < 7 → r < 2 ^ (8 * i) → r < 281474976710656
 room r i h hr = lt_of_lt_of_le hr (pow_mono {i = 8 * i} {j = 48} (omega arith))
 
--- ---- writing: one byte on
-pub put_turn : (out : List ℕ) (v n at i : ℕ) → i < n
-    → sets (set out (at + i) (v / 2 ^ (8 * (n - 1 - i)) % 256)) (at + (i + 1)) (bytes_of (n - (i + 1)) v) ≡ sets out (at + i) (bytes_of (n - i) v)
-put_turn out v n at i h =
-    let a : n - i ≡ suc (n - 1 - i) = omega arith in
-    let b : n - (i + 1) ≡ n - 1 - i = omega arith in
-    let d : at + (i + 1) ≡ suc (at + i) = omega arith in
-    rw (a, b, d)
-
 -- ---- the number of a number's bytes
-eight_more : (n : ℕ) → 2 ^ (8 * suc n) ≡ 256 * 2 ^ (8 * n)
+pub eight_more : (n : ℕ) → 2 ^ (8 * suc n) ≡ 256 * 2 ^ (8 * n)
 eight_more n = let e : 8 * suc n ≡ 8 + 8 * n = omega arith in rw e (pow-add 2 8 (8 * n))
 
 grown : (r d x m : ℕ) → (r * 256 + d) * x + m ≡ r * (256 * x) + (d * x + m)

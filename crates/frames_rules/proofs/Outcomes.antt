@@ -8,6 +8,7 @@ use native.Mathlib.Omega.{arith}
 use lib.Dec.{eqb}
 use lib.ListN.{length}
 use borrow.Author.Tests.{eq-eqb, ne_eqb, not-false}
+use Rattle.std.specs.Prelude.{Some, Result, Ok}
 use Rattle.lists.specs.Lists.{pick}
 use Rattle.lists.specs.Checks.{Check, checked, None, numbered}
 use Rattle.lists.specs.Answers.{Answer, done, refused_by}
@@ -17,10 +18,9 @@ use Rattle.parity_rules.specs.Messages.{bits, seven_or_fourteen}
 use Rattle.parity_rules.specs.Division.{remainder_of}
 use Rattle.parity_rules.specs.Overlays.{overlay_of}
 use Rattle.parity_rules.proofs.Laws.{overlay_lt}
-use Rattle.frames_rules.specs.declared.answers.Built.{Built}
-use Rattle.frames_rules.specs.declared.answers.Built.TheVariants.{Done}
-use Rattle.frames_rules.specs.Answers.{Building, built_said, number_of_built, holding, not_built, own}
-use Rattle.frames_rules.specs.declared.answers.Address.TheVariants.{Is}
+use Rattle.refusals.specs.declared.refusal.Refusal.{Refusal}
+use Rattle.refusals.specs.Refusals.{number_given}
+use Rattle.frames_rules.specs.Answers.{Building, built_said, holding, not_built, own}
 use Rattle.frames_rules.specs.Addresses.{address_of}
 use Rattle.frames_rules.specs.Bytes.{number_of_bytes}
 use Rattle.frames_rules.specs.Fields.{head_of, mid_of, value_at, at_uf, selective_head, all_call_head, reply_head, all_call_reply_head}
@@ -62,7 +62,8 @@ long_or_zero f mid (inr e) = inl (rw e)
 module _ (eleven : ℕ → ℕ → Answer) (others : ℕ → ℕ → ℕ → Answer) (m : List ℕ) where
   -- no line is the case
   passed_reads : seven_or_fourteen (length m) ≡ true → listed (format_of m) (length m) ≡ true
-      → read_as eleven others m ≡ pick (eqb (format_of m) 11) (eleven (head_of m) (remainder_of (bits m))) (others (head_of m) (mid_of m) (remainder_of (bits m)))
+      → read_as eleven others m
+      ≡ pick (eqb (format_of m) 11) (eleven (head_of m) (remainder_of (bits m))) (others (head_of m) (mid_of m) (remainder_of (bits m)))
   unfolding read_as
   passed_reads h l = sym (end refused_by _ all (not_off _ h, (not_off _ l, tt)))
 
@@ -99,7 +100,7 @@ module _ (uf pc rr di sd ma address : ℕ) (hr : selective_ranged uf pc rr di sd
       ∙ selective_fields uf pc rr di sd (surveillance_lt uf r.format) (omega arith) (omega arith) (omega arith) (omega arith) ma (overlay_of address)
 
   -- the address is found again in the frame
-  pub selective_address : address_of (remainder_of (bits (selective uf pc rr di sd ma address))) ≡ Is address
+  pub selective_address : address_of (remainder_of (bits (selective uf pc rr di sd ma address))) ≡ Some address
   selective_address =
       let r = selective_in uf pc rr di sd ma address hr in
       ap address_of selective_parts.remainder_is ∙ address_back address (omega arith)
@@ -141,7 +142,8 @@ module _ (ca address cl ic : ℕ) (hr : all_call_reply_ranged ca address cl ic �
   unfolding an_all_call_reply
   all_call_reply_parts =
       let r = all_call_reply_in ca address cl ic hr in
-      frame_parts (all_call_reply_head ca address) 0 (code_number cl ic) (all_call_reply_lt ca address (omega arith) (omega arith)) (omega arith) (omega arith) 7
+      frame_parts (all_call_reply_head ca address) 0 (code_number cl ic) (all_call_reply_lt ca address (omega arith) (omega arith)) (omega arith)
+      (omega arith) 7
       refl (inr refl)
 
   pub read_all_call_reply : read_down (an_all_call_reply ca address cl ic) ≡ done (11 ∷ ca ∷ address ∷ code_number cl ic ∷ [])
@@ -164,37 +166,40 @@ module _ (ca address cl ic : ℕ) (hr : all_call_reply_ranged ca address cl ic �
       ∙ rw (p.remainder_is, eq-eqb (code_number cl ic) (code_number cl ic) refl)
 
 -- ---- the same of what the calls answer
-built_passed : (cs : List Check) (out x out' : List ℕ) (b : Built) → numbered cs ≡ true → built_said b out' ≡ checked cs (not_built out) (holding x) → b ≡ Done
+built_passed : (cs : List Check) (out x out' : List ℕ) (b : Result (Unit {0}) Refusal) → numbered cs ≡ true
+    → built_said b out' ≡ checked cs (not_built out) (holding x) → b ≡ Ok tt
     → None cs × (out' ≡ x)
 built_passed cs out x out' b z e d = go (checked cs (not_built out) (holding x)) e (came_to (not_built out) (holding x) cs z)
   where
     go : (o : Building) → built_said b out' ≡ o → CameTo cs (not_built out) (holding x) o → None cs × (out' ≡ x)
-    go o e (was_refused c m k g q) = absurd (m (sym (ap (λ (y : Building). y.number) (e ∙ q)) ∙ ap number_of_built d))
+    go o e (was_refused c m k g q) = absurd (m (sym (ap (λ (y : Building). y.number) (e ∙ q)) ∙ ap number_given d))
     go o e (was_done p g q) = (p.none, ap (λ (y : Building). y.output) (e ∙ q))
 
-pub build_reads : (uf pc rr di sd : ℕ) (ma : List ℕ) (address : ℕ) (out out' : List ℕ) (b : Built)
-    → built_said b out' ≡ building uf pc rr di sd ma address out → b ≡ Done
+pub build_reads : (uf pc rr di sd : ℕ) (ma : List ℕ) (address : ℕ) (out out' : List ℕ) (b : Result (Unit {0}) Refusal)
+    → built_said b out' ≡ building uf pc rr di sd ma address out → b ≡ Ok tt
     → read_up out' ≡ done (uf ∷ pc ∷ rr ∷ di ∷ sd ∷ number_of_bytes ma ∷ overlay_of address ∷ [])
 unfolding building
 build_reads uf pc rr di sd ma address out out' b e d =
     let p = built_passed (building_checks uf pc rr di sd ma address out) out (selective uf pc rr di sd (number_of_bytes ma) address) out' b refl e d in
     ap read_up p.1 ∙ read_selective uf pc rr di sd (number_of_bytes ma) address (not-false _ p.0.1.1.0)
 
-pub all_call_built_reads : (pr ic cl : ℕ) (out out' : List ℕ) (b : Built) → built_said b out' ≡ all_calling pr ic cl out → b ≡ Done
+pub all_call_built_reads : (pr ic cl : ℕ) (out out' : List ℕ) (b : Result (Unit {0}) Refusal) → built_said b out' ≡ all_calling pr ic cl out → b ≡ Ok tt
     → read_up out' ≡ done (11 ∷ pr ∷ ic ∷ cl ∷ overlay_of 0xFFFFFF ∷ [])
 unfolding all_calling
 all_call_built_reads pr ic cl out out' b e d =
     let p = built_passed (all_calling_checks pr ic cl out) out (all_call pr ic cl) out' b refl e d in
     ap read_up p.1 ∙ read_all_call pr ic cl (not-false _ p.0.1.0)
 
-pub reply_reads : (df fs dr um value mb address : ℕ) (out out' : List ℕ) (b : Built) → built_said b out' ≡ replying df fs dr um value mb address out → b ≡ Done
+pub reply_reads : (df fs dr um value mb address : ℕ) (out out' : List ℕ) (b : Result (Unit {0}) Refusal)
+    → built_said b out' ≡ replying df fs dr um value mb address out → b ≡ Ok tt
     → read_down out' ≡ done (df ∷ fs ∷ dr ∷ um ∷ value ∷ mb ∷ address ∷ [])
 unfolding replying
 reply_reads df fs dr um value mb address out out' b e d =
     let p = built_passed (replying_checks df fs dr um value mb address out) out (a_reply df fs dr um value mb address) out' b refl e d in
     ap read_down p.1 ∙ read_reply df fs dr um value mb address (not-false _ p.0.0) (not-false _ p.0.1.1.0)
 
-pub all_call_reply_reads : (ca address cl ic : ℕ) (out out' : List ℕ) (b : Built) → built_said b out' ≡ all_call_replying ca address cl ic out → b ≡ Done
+pub all_call_reply_reads : (ca address cl ic : ℕ) (out out' : List ℕ) (b : Result (Unit {0}) Refusal)
+    → built_said b out' ≡ all_call_replying ca address cl ic out → b ≡ Ok tt
     → read_down out' ≡ done (11 ∷ ca ∷ address ∷ code_number cl ic ∷ [])
 unfolding all_call_replying
 all_call_reply_reads ca address cl ic out out' b e d =

@@ -17,11 +17,13 @@ use Rattle.parity_rules.specs.Division.{remainder_of}
 use Rattle.parity_rules.specs.Overlays.{overlay_of}
 use Rattle.frames_rules.specs.Answers.{holding, not_built}
 use Rattle.frames_rules.specs.Bytes.{number_of_bytes}
-use Rattle.frames_rules.specs.Fields.{head_of, mid_of, value_at, at_uf, at_pc, at_rr, at_di, at_sd, selective_head, all_call_head, reply_head, all_call_reply_head}
+use Rattle.frames_rules.specs.Fields.{head_of, mid_of, value_at, at_uf, at_pc, at_rr}
+use Rattle.frames_rules.specs.Fields.{at_di, at_sd, selective_head, all_call_head, reply_head, all_call_reply_head}
 use Rattle.frames_rules.specs.Formats.{long_format, surveillance, length_of, listed}
 use Rattle.frames_rules.specs.Frames.{framed}
 use Rattle.frames_rules.specs.Building.{selective_ranged, selective, all_call, a_reply, an_all_call_reply, building}
-use Rattle.frames_rules.specs.Reading.{format_of, read_checks, read_as, read_up, read_down, selective_read, all_call_read, surveillance_read, all_call_reply_read}
+use Rattle.frames_rules.specs.Reading.{format_of, read_checks, read_as, read_up, read_down}
+use Rattle.frames_rules.specs.Reading.{selective_read, all_call_read, surveillance_read, all_call_reply_read}
 use Rattle.frames_rules.specs.Shared.{code_number}
 use Rattle.frames_rules.proofs.Heads.{selective_again, all_call_again, reply_again, all_call_reply_again}
 use Rattle.frames_rules.proofs.Laying.{at_least_seven}
@@ -130,7 +132,8 @@ module _ (m : List ℕ) (h : AreBytes m) (uf pc rr di sd ma r : ℕ) where
       where
         same_head : Selective
             → selective_head uf pc rr di sd
-            ≡ selective_head (value_at at_uf (head_of m)) (value_at at_pc (head_of m)) (value_at at_rr (head_of m)) (value_at at_di (head_of m)) (value_at at_sd (head_of m))
+            ≡ selective_head (value_at at_uf (head_of m)) (value_at at_pc (head_of m)) (value_at at_rr (head_of m)) (value_at at_di (head_of m))
+            (value_at at_sd (head_of m))
         same_head s = cc (s.at_uf_is, s.at_pc_is, s.at_rr_is, s.at_di_is, s.at_sd_is)
 
     zero_or_long : Selective → eqb ma 0 || leb ma 0xFFFFFFFFFFFFFF && long_format uf ≡ true
@@ -240,7 +243,8 @@ all_call_reply_rebuilt m h ca address cl ic e = go (read_down m) (read_cases all
     same_head : (a b : ℕ) → a ≡ ca → b ≡ address → all_call_reply_head ca address ≡ all_call_reply_head a b
     same_head a b p q = cc
 
-    go : (a : Answer) → Read all_call_reply_read surveillance_read m a → a ≡ done (11 ∷ ca ∷ address ∷ code_number cl ic ∷ []) → an_all_call_reply ca address cl ic ≡ m
+    go : (a : Answer) → Read all_call_reply_read surveillance_read m a → a ≡ done (11 ∷ ca ∷ address ∷ code_number cl ic ∷ [])
+        → an_all_call_reply ca address cl ic ≡ m
     go a no_length q = absurd (omega (arith, ap count q))
     go a no_format q = absurd (omega (arith, ap count q))
     go a (another w l f) q = absurd (omega (arith, ap count q))

@@ -89,7 +89,8 @@ module _ (head mid overlay : ℕ) (hh : head < 4294967296) (hm : mid < 720575940
 
 -- ---- a message is the frame of its own parts
 part_bytes : (n : ℕ) (s : List ℕ) → n ≤ length s → AreBytes s → bytes_of n (number_of_bytes (take n s)) ≡ take n s
-part_bytes n s l h = ap (λ (k : ℕ). bytes_of k (number_of_bytes (take n s))) (sym (length-take-le n s l)) ∙ bytes_number (take n s) (all_take (λ b. b < 256) n s h)
+part_bytes n s l h = ap (λ (k : ℕ). bytes_of k (number_of_bytes (take n s))) (sym (length-take-le n s l))
+    ∙ bytes_number (take n s) (all_take (λ b. b < 256) n s h)
 
 module _ (m : List ℕ) (h : AreBytes m) where
   short_front : length m ≡ 7 → front (length m) (head_of m) (mid_of m) ≡ take (length m - 3) m

@@ -1,15 +1,11 @@
--- A reckoned answer of parity that is known to be a number: the other cases do not come.
+-- A reckoned answer of parity that is known to be a number: no refusal comes.
 use mathlib.Core.Path.{◌≡◌}
 use Prim.Native.Nat.{ℕ}
-use native.Mathlib.Omega.{arith}
-use Rattle.parity_rules.specs.declared.answers.Reckoned.{Reckoned}
-use Rattle.parity_rules.specs.declared.answers.Reckoned.TheVariants.{Is, Length, Range}
+use Rattle.std.specs.Prelude.{Result, Ok, IsOk}
+use Rattle.refusals.specs.declared.refusal.Refusal.{Refusal}
 
-pub the_value : (x : Reckoned) (v w : ℕ) → x ≡ Is v → x ≡ Is w → v ≡ w
+pub the_value : (x : Result ℕ Refusal) (v w : ℕ) → x ≡ Ok v → x ≡ Ok w → v ≡ w
 the_value x v w e f = cc
 
-pub no_length : (x : Reckoned) (w : ℕ) → x ≡ Length → x ≡ Is w → ⊥
-no_length x w e f = let z : ◌≡◌ {A = ℕ} 0 1 = cc in omega arith
-
-pub no_range : (x : Reckoned) (w : ℕ) → x ≡ Range → x ≡ Is w → ⊥
-no_range x w e f = let z : ◌≡◌ {A = ℕ} 0 1 = cc in omega arith
+pub no_refusal : (x : Result ℕ Refusal) (w : ℕ) → x ≡ Ok w → IsOk x
+no_refusal x w e = rw e

@@ -6,7 +6,8 @@ use Rattle.lists.specs.Listing.{Row, row, Agrees, ◌also◌}
 use Rattle.parity_rules.specs.Messages.{bits}
 use Rattle.parity_rules.specs.Division.{shift_in, divide, remainder_of}
 use Rattle.frames_rules.specs.Fields.{head_of, mid_of}
-use Rattle.frames_rules.specs.Building.{selective_ranged, building, all_call_ranged, all_calling, reply_ranged, replying, all_call_reply_ranged, all_call_replying}
+use Rattle.frames_rules.specs.Building.{selective_ranged, building, all_call_ranged, all_calling}
+use Rattle.frames_rules.specs.Building.{reply_ranged, replying, all_call_reply_ranged, all_call_replying}
 use Rattle.frames_rules.specs.Reading.{read_as, read_up, read_down, selective_read, all_call_read, surveillance_read, all_call_reply_read, mb_part}
 use Rattle.frames_rules.specs.Shared.{code_for, code_told, drawn, drawn_told}
 use Rattle.frames_rules.specs.Addresses.{quotient_bits, quotient_of, address_of, address_told}
@@ -157,7 +158,8 @@ listing =
 
 -- the one claim
 pub frames_agree : Agrees listing
-unfolding checked bits shift_in divide remainder_of head_of mid_of read_as selective_read all_call_read surveillance_read all_call_reply_read whose code_of code_for
+unfolding checked bits shift_in divide remainder_of head_of mid_of read_as selective_read all_call_read surveillance_read all_call_reply_read whose
+    code_of code_for
     code_told drawn drawn_told quotient_bits quotient_of address_of address_told selective_ranged building all_call_ranged all_calling reply_ranged replying
     all_call_reply_ranged all_call_replying
 frames_agree =

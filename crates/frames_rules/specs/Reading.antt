@@ -5,7 +5,8 @@ use Rattle.lists.specs.Checks.{Check, check, checked}
 use Rattle.lists.specs.Answers.{Answer, done, refused_by}
 use Rattle.parity_rules.specs.Messages.{bits, seven_or_fourteen}
 use Rattle.parity_rules.specs.Division.{remainder_of}
-use Rattle.frames_rules.specs.Fields.{head_of, mid_of, value_at, at_uf, at_pc, at_rr, at_di, at_sd, at_pr, at_ic, at_cl, at_df, at_fs, at_dr, at_um, at_ac_or_id, at_ca}
+use Rattle.frames_rules.specs.Fields.{head_of, mid_of, value_at, at_uf, at_pc, at_rr, at_di, at_sd, at_pr}
+use Rattle.frames_rules.specs.Fields.{at_ic, at_cl, at_df, at_fs, at_dr, at_um, at_ac_or_id, at_ca}
 use Rattle.frames_rules.specs.Fields.{at_address}
 use Rattle.frames_rules.specs.Formats.{listed}
 

@@ -1,18 +1,7 @@
-// What the public calls answer; specs/Answers.antt has document 01's number and values for each case.
-
-// What became of a frame to be built.
-#[derive(Clone, Copy)]
-pub enum Built {
-    // The buffer holds the frame.
-    Done,
-    // A buffer that has not the frame's length, or MA that is not seven bytes.
-    Length,
-    // A number outside its range.
-    Range,
-}
+// What the calls on frames find; specs/Answers.antt has the values for each case. A call that is refused answers a Refusal instead.
 
 // An interrogation read alone.
-#[derive(Clone, Copy)]
+#[derive(Clone, Copy, Debug, PartialEq, Eq)]
 pub enum Up {
     // UF 4, 5, 20 or 21; MA is zero for a short one.
     Selective {
@@ -31,14 +20,10 @@ pub enum Up {
         cl: u8,
         remainder: u32,
     },
-    // A message that is not 7 or 14 bytes.
-    Length,
-    // A format that is not listed, or not of that length.
-    Format,
 }
 
 // A reply read alone.
-#[derive(Clone, Copy)]
+#[derive(Clone, Copy, Debug, PartialEq, Eq)]
 pub enum Down {
     // DF 4, 5, 20 or 21; the value is AC or ID, and MB is zero for a short one.
     Surveillance {
@@ -56,14 +41,10 @@ pub enum Down {
         address: u32,
         remainder: u32,
     },
-    // A message that is not 7 or 14 bytes.
-    Length,
-    // A format that is not listed, or not of that length.
-    Format,
 }
 
 // Whose code a DF 11 carries.
-#[derive(Clone, Copy)]
+#[derive(Clone, Copy, Debug, PartialEq, Eq)]
 pub enum Code {
     // The station's own.
     Own,
@@ -71,32 +52,11 @@ pub enum Code {
     Matching,
     // Anybody else's.
     Other,
-    // A message that is not 7 or 14 bytes.
-    Length,
-    // CL, IC or the permission out of range.
-    Range,
-    // Not a DF 11 of 7 bytes.
-    Format,
 }
 
 // The code that CL and IC stand for.
-#[derive(Clone, Copy)]
+#[derive(Clone, Copy, Debug, PartialEq, Eq)]
 pub enum Interrogator {
     II(u8),
     SI(u8),
-    Nobody,
-}
-
-// The format of the reply that a request draws.
-#[derive(Clone, Copy)]
-pub enum Draws {
-    Format(u8),
-    Nothing,
-}
-
-// The number whose uplink overlay a remainder is.
-#[derive(Clone, Copy)]
-pub enum Address {
-    Is(u32),
-    Nobody,
 }

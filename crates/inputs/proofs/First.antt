@@ -17,24 +17,24 @@ abbrev pub EndsIn : List ℕ → ℕ → Type 0
 EndsIn p at = line_end p at < length p
 
 -- the loop stands where it began
-pub record First (piece₀ line₀ : List ℕ) (got₀ at₀ turns₀ : ℕ) (piece line : List ℕ) (got at size turns : ℕ) : Type 0 where
+pub record First (piece₀ line₀ : List ℕ) (got₀ at₀ : ℕ) (piece line : List ℕ) (got at size turn : ℕ) : Type 0 where
   pub pieces : piece ≡ piece₀
   pub lines : line ≡ line₀
   pub gots : got ≡ got₀
   pub places : at ≡ at₀
   pub none : size ≡ 0
-  pub turns_left : turns ≡ turns₀
+  pub turns : turn ≡ 0
 
 -- while a line ends at hand, it stands there
-pub record Held (piece₀ line₀ : List ℕ) (got₀ at₀ turns₀ : ℕ) (piece line : List ℕ) (got at size turns : ℕ) : Type 0 where
-  pub first : EndsIn (take got₀ piece₀) at₀ → First piece₀ line₀ got₀ at₀ turns₀ piece line got at size turns
+pub record Held (piece₀ line₀ : List ℕ) (got₀ at₀ : ℕ) (piece line : List ℕ) (got at size turn : ℕ) : Type 0 where
+  pub first : EndsIn (take got₀ piece₀) at₀ → First piece₀ line₀ got₀ at₀ piece line got at size turn
 
 -- so it does before its first turn
-pub held_first : {piece line : List ℕ} {got at turns : ℕ} → Held piece line got at turns piece line got at 0 turns
-held_first = record { first = λ _. record { pieces = refl; lines = refl; gots = refl; places = refl; none = refl; turns_left = refl } }
+pub held_first : {piece line : List ℕ} {got at : ℕ} → Held piece line got at piece line got at 0 0
+held_first = record { first = λ _. record { pieces = refl; lines = refl; gots = refl; places = refl; none = refl; turns = refl } }
 
-module _ {piece₀ line₀ : List ℕ} {got₀ at₀ turns₀ : ℕ} {piece line : List ℕ} {got at size turns : ℕ}
-    (held : Held piece₀ line₀ got₀ at₀ turns₀ piece line got at size turns) {after : List ℕ} {g : Gathered}
+module _ {piece₀ line₀ : List ℕ} {got₀ at₀ : ℕ} {piece line : List ℕ} {got at size turn : ℕ}
+    (held : Held piece₀ line₀ got₀ at₀ piece line got at size turn) {after : List ℕ} {g : Gathered}
     (took : Gathers line after size (take got piece) at g) where
   -- what the first turn took
   at_first : EndsIn (take got₀ piece₀) at₀ → Gathers line₀ after 0 (take got₀ piece₀) at₀ g
@@ -47,8 +47,8 @@ module _ {piece₀ line₀ : List ℕ} {got₀ at₀ turns₀ : ℕ} {piece line
   no_end e h = omega (arith, ltb-false (line_end (take got₀ piece₀) at₀) (length (take got₀ piece₀)) (sym (at_first h).ended ∙ e), h)
 
   -- so the next turn is not asked
-  pub held_next : {piece' line' : List ℕ} {got' at' size' turns' : ℕ} → g.ended ≡ false
-      → Held piece₀ line₀ got₀ at₀ turns₀ piece' line' got' at' size' turns'
+  pub held_next : {piece' line' : List ℕ} {got' at' size' turn' : ℕ} → g.ended ≡ false
+      → Held piece₀ line₀ got₀ at₀ piece' line' got' at' size' turn'
   held_next e = record { first = λ h. absurd (no_end e h) }
 
 -- behind the end of the input
@@ -70,11 +70,11 @@ fed_end m e none =
       ended = λ _. ap (λ (x : Feed). x.more) e;
     }
 
-module _ {f : Feed} {piece₀ line₀ : List ℕ} {got₀ turns₀ : ℕ} {piece line : List ℕ} {got at size turns : ℕ} (m : f.more ≡ true)
-    (w : got₀ ≡ min f.got (length piece₀)) (held : Held piece₀ line₀ got₀ f.at turns₀ piece line got at size turns) where
-  -- no turn is left, and there were some
-  pub fed_turns : {piece' line' : List ℕ} {r : Feed} {n : ℕ} → turns < turns₀ → r ≡ at_end n → Fed f piece₀ piece' line₀ line' r
-  fed_turns t e = fed_end m e (λ h. omega (arith, t, (held.first (rw w h)).turns_left))
+module _ {f : Feed} {piece₀ line₀ : List ℕ} {got₀ : ℕ} {piece line : List ℕ} {got at size turn : ℕ} (m : f.more ≡ true)
+    (w : got₀ ≡ min f.got (length piece₀)) (held : Held piece₀ line₀ got₀ f.at piece line got at size turn) where
+  -- the turns are over
+  pub fed_turns : {piece' line' : List ℕ} {r : Feed} {n : ℕ} → 0 < turn → r ≡ at_end n → Fed f piece₀ piece' line₀ line' r
+  fed_turns t e = fed_end m e (λ h. omega (arith, t, (held.first (rw w h)).turns))
 
   module _ {after : List ℕ} {g : Gathered} (took : Gathers line after size (take got piece) at g) where
     -- the input ended

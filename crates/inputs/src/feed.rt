@@ -68,7 +68,7 @@ fn ended(size: usize) -> Feed
 }
 
 // The next line stands at the start of the buffer, as much of it as there is room for; behind the end of the input nothing is read. Nothing says
-// that an input ends, so the loop counts its turns down from a number that no run uses up.
+// that an input ends, so the turns are bounded.
 pub fn next_line<R: Read>(
     rt: &impl Eprint,
     source: &mut R,
@@ -85,8 +85,7 @@ pub fn next_line<R: Read>(
     let mut got = within(f.got, piece);
     let mut at = f.at;
     let mut size: usize = 0;
-    let mut turns = u64::MAX;
-    while 0 < turns {
+    for _ in 0..u64::MAX {
         let g = text::gather(line, size, &piece[..got], at);
         size = g.size;
         if g.ended {
@@ -103,7 +102,6 @@ pub fn next_line<R: Read>(
         if got == 0 {
             return ended(size);
         }
-        turns -= 1;
     }
     ended(size)
 }

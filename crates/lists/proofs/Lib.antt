@@ -4,6 +4,7 @@ pub mod Checks
 pub mod Every
 pub mod Table
 pub mod Total
+pub mod Walk
 pub mod Front
 pub mod Count
 pub mod Index
@@ -12,6 +13,7 @@ pub mod Held
 pub mod Each
 pub mod Among
 pub mod Keys
+pub mod Library
 pub mod Filter
 pub mod Kept
 pub mod Copied

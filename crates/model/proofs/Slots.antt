@@ -1,73 +1,65 @@
--- The parts of a transponder over plain variables: messages, bytes that are sent, timers, ranges.
-use Prim.Native.Nat.{ℕ, ◌≤◌}
+-- The parts of a transponder over plain variables: messages, timers, ranges.
+use Prim.Native.Nat.{ℕ, ◌-◌, ◌≤◌}
 use native.Mathlib.Omega.{arith}
-use mathlib.Core.Path.{◌≡◌, refl, sym, ap}
-use mathlib.Core.Bool.{true, ◌&&◌}
-use mathlib.Core.List.{List, [], ◌∷◌, ◌++◌, map, append-nil}
+use mathlib.Core.Path.{◌≡◌, refl, sym, ap, ◌∙◌}
+use mathlib.Core.Bool.{Bool, true, false, ◌&&◌}
+use mathlib.Core.List.{List, [], ◌∷◌, ◌++◌, map}
 use lib.Dec.{leb}
+use lib.ListN.{length, get_or, take, drop, set, get_or-eq_default}
+use lib.Seq.{set_out}
 use borrow.Author.Tests.{leb-true}
+use Rattle.std.specs.Prelude.{Option, Some, None, is_some}
 use Rattle.lists.proofs.Tests.{and_true}
 use Rattle.frames_rules.specs.Building.{is_address}
-use Rattle.model_rules.specs.declared.state.Lock.TheVariants.{Since}
-use Rattle.model_rules.specs.declared.state.Timer.{Timer}
+use Rattle.frames_rules.specs.declared.answers.Interrogator.{Interrogator}
+use Rattle.model_rules.specs.declared.state.Messages.{Messages}
 use Rattle.model_rules.specs.declared.state.Timers.{Timers}
-use Rattle.model_rules.specs.declared.state.Sent.{Sent}
-use Rattle.model_rules.specs.State.{started}
+use Rattle.model_rules.specs.State.{place_of, idle, started, started_by, waiting, waits, messages_after}
 use Rattle.model_rules.specs.Lapse.{timer_after, timers_after}
-use Rattle.model_rules.specs.Replies.{sent_bytes}
+use Rattle.model_rules.specs.Lockout.{locks, locked_to}
 use Rattle.model_rules.specs.Calls.{make_ranged}
-use lib.ListN.{length, get_or, drop, set, replicate, drop_of_length-le}
-use lib.Seq.{drop-cons, set_out}
-use Rattle.lists.specs.Lists.{over}
 
--- what eight slots hold after the first
-pub moved_up : (l : List ℕ) → length l ≡ 8
-    → get_or l 1 0 ∷ get_or l 2 0 ∷ get_or l 3 0 ∷ get_or l 4 0 ∷ get_or l 5 0 ∷ get_or l 6 0 ∷ get_or l 7 0 ∷ 0 ∷ [] ≡ drop 1 l ++ (0 ∷ [])
-moved_up l e =
-    let d : drop 8 l ≡ [] = drop_of_length-le l {i = 8} (omega arith) in
-    rw (
-      drop-cons l 1 0 (omega arith),
-      drop-cons l 2 0 (omega arith),
-      drop-cons l 3 0 (omega arith),
-      drop-cons l 4 0 (omega arith),
-      drop-cons l 5 0 (omega arith),
-      drop-cons l 6 0 (omega arith),
-      drop-cons l 7 0 (omega arith),
-      d,
-    )
+-- ---- messages
+-- what the slots hold once the first has gone and the others have moved up
+moved_up : (l : List ℕ) → 1 ≤ length l → drop 1 (set l 0 0) ++ take 1 (set l 0 0) ≡ drop 1 l ++ (0 ∷ [])
+moved_up [] h = absurd (omega arith)
+moved_up (x ∷ l) h = refl
 
--- seven bytes, and zeros behind them
-pub seven : (b : List ℕ) → length b ≡ 7
-    → get_or b 0 0 ∷ get_or b 1 0 ∷ get_or b 2 0 ∷ get_or b 3 0 ∷ get_or b 4 0 ∷ get_or b 5 0 ∷ get_or b 6 0 ∷ 0 ∷ 0 ∷ 0 ∷ 0 ∷ 0 ∷ 0 ∷ 0 ∷ [] ≡ over b (replicate 14 0)
-unfolding over
-seven [] e = absurd (omega arith)
-seven (a ∷ []) e = absurd (omega arith)
-seven (a ∷ b ∷ []) e = absurd (omega arith)
-seven (a ∷ b ∷ c ∷ []) e = absurd (omega arith)
-seven (a ∷ b ∷ c ∷ d ∷ []) e = absurd (omega arith)
-seven (a ∷ b ∷ c ∷ d ∷ f ∷ []) e = absurd (omega arith)
-seven (a ∷ b ∷ c ∷ d ∷ f ∷ g ∷ []) e = absurd (omega arith)
-seven (a ∷ b ∷ c ∷ d ∷ f ∷ g ∷ h ∷ []) e = refl
-seven (a ∷ b ∷ c ∷ d ∷ f ∷ g ∷ h ∷ i ∷ w) e = absurd (omega arith)
-
--- fourteen bytes are all that is sent
-pub fourteen : (b : List ℕ) → length b ≡ 14 → record { length = 14; bytes = b } ≡ sent_bytes b
-unfolding over
-fourteen b e = rw e (ap {B = Sent} (λ (x : List ℕ). record { length = 14; bytes = x }) (sym (append-nil b)))
+pub dropped : (m : Messages) (l : List ℕ) (n : ℕ) → 1 ≤ length m.list → waits m ≡ true → n ≡ length (waiting m)
+    → l ≡ drop 1 (set m.list 0 0) ++ take 1 (set m.list 0 0) → record { list = l; n = n - 1 } ≡ messages_after m
+unfolding messages_after
+dropped m l n h w e p = rw (w, e, p, moved_up m.list h)
 
 -- ---- timers
-pub timers_are : (a t : Timers) (now : ℕ) → a.list ≡ map (timer_after now) t.list → a ≡ timers_after now t
+module _ (t : Timers) (code : Option Interrogator) (c : Interrogator) (time : ℕ) (l : List (Option ℕ)) (k : ℕ)
+    (s : code ≡ Some c) (p : k ≡ place_of c) (q : l ≡ t.list) where
+  -- the timer at the code's place has the time
+  pub started_at : record { list = set l k (Some time) } ≡ started_by code time t
+  unfolding started
+  started_at = rw (s, p, q)
+
+  -- a place beyond the last starts nothing
+  pub started_none : length l ≤ k → record { list = l } ≡ started_by code time t
+  unfolding started
+  started_none h = rw (s, ← p, ← q) (ap {B = Timers} (λ (x : List (Option ℕ)). record { list = x }) (sym (set_out l k (Some time) h)))
+
+-- whether one locks
+locks_is : (x : Option ℕ) → is_some x ≡ locks x
+locks_is None = refl
+locks_is (Some s) = refl
+
+module _ (t : Timers) (code : Interrogator) (k : ℕ) (p : k ≡ place_of code) (l : List (Option ℕ)) (q : l ≡ t.list) where
+  pub locked_at : (b : Bool) → b ≡ is_some (get_or l k None) → b ≡ locked_to code t
+  unfolding locked_to
+  locked_at b e = rw (← p, ← q) (e ∙ locks_is (get_or l k None))
+
+  pub locked_none : length l ≤ k → false ≡ locked_to code t
+  unfolding locked_to
+  locked_none h = rw (← p, ← q, get_or-eq_default l idle h)
+
+pub timers_are : (l : List (Option ℕ)) (t : Timers) (now : ℕ) → l ≡ map (timer_after now) t.list → record { list = l } ≡ timers_after now t
 unfolding timers_after
-timers_are a t now e = ap {B = Timers} (λ (x : List Timer). record { list = x }) e
-
-pub started_at : (a t : Timers) (place k time : ℕ) → k ≡ place → a.list ≡ set t.list k (record { lock = Since time }) → a ≡ started place time t
-unfolding started
-started_at a t place k time p e = rw (← p) (ap {B = Timers} (λ (x : List Timer). record { list = x }) e)
-
-pub started_none : (t : Timers) (place k time : ℕ) → k ≡ place → length t.list ≤ k → t ≡ started place time t
-unfolding started
-started_none t place k time p h =
-    rw (← p) (ap {B = Timers} (λ (x : List Timer). record { list = x }) (sym (set_out t.list k (record { lock = Since time }) h)))
+timers_are l t now e = ap {B = Timers} (λ (x : List (Option ℕ)). record { list = x }) e
 
 -- ---- the ranges of a making
 pub make_in : (address ac id fs ca : ℕ) → make_ranged address ac id fs ca ≡ true → (ac ≤ 8191) × (id ≤ 8191) × (fs ≤ 7) × (ca ≤ 7)

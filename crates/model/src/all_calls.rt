@@ -1,8 +1,9 @@
 // The reply to an all-call.
 ghost use Rattle.std.specs.Prelude.{◌≡◌};
 ghost use Rattle.model_rules.specs.Replies.{draws_below, free, answers_free, answers_code, answer_all_call};
+ghost use Rattle.model_rules.specs.Said.{sent_as};
 
-use crate::sending::{send_all_call, silence};
+use crate::sending::send_all_call;
 use crate::timers::locked_to;
 use frames::Interrogator;
 use model_rules::{Sent, Transponder};
@@ -25,43 +26,36 @@ fn draws_below(pr: u8) -> u32
 }
 
 // Whether lockout lets a code's all-call through.
-fn free(pr: u8, code: Interrogator, t: Transponder) -> bool
-    ensures { result ≡ free pr code t }
+fn free(pr: u8, code: Interrogator, t: &Transponder) -> bool
+    ensures { result ≡ free pr code t.now }
 {
-    if 8 <= pr {
-        return true;
-    }
-    !locked_to(t.timers, code)
+    8 <= pr || !locked_to(&t.timers, code)
 }
 
 // Whether an all-call of somebody's code is answered.
-fn answers_free(pr: u8, draw: u32, code: Interrogator, t: Transponder) -> bool
-    ensures { result ≡ answers_free pr draw code t }
+fn answers_free(pr: u8, draw: u32, code: Interrogator, t: &Transponder) -> bool
+    ensures { result ≡ answers_free pr draw code t.now }
 {
-    if !free(pr, code, t) {
-        return false;
-    }
-    draw < draws_below(pr)
+    free(pr, code, t) && draw < draws_below(pr)
 }
 
 // Whether an all-call of a code is answered.
-fn answers_code(pr: u8, draw: u32, t: Transponder, code: Interrogator) -> bool
-    ensures { result ≡ answers_code pr draw t code }
+fn answers_code(pr: u8, draw: u32, t: &Transponder, code: Option<Interrogator>) -> bool
+    ensures { result ≡ answers_code pr draw t.now code }
 {
     match code {
-        Interrogator::Nobody => false,
-        Interrogator::II(n) => answers_free(pr, draw, Interrogator::II(n), t),
-        Interrogator::SI(n) => answers_free(pr, draw, Interrogator::SI(n), t),
+        None => false,
+        Some(c) => answers_free(pr, draw, c, t),
     }
 }
 
 // The reply to an all-call.
-pub(crate) fn answer_all_call(pr: u8, ic: u8, cl: u8, draw: u32, t: Transponder) -> Sent
-    ensures { result ≡ answer_all_call pr ic cl draw t }
+pub(crate) fn answer_all_call(pr: u8, ic: u8, cl: u8, draw: u32, t: &Transponder) -> Option<Sent>
+    ensures { sent_as result ≡ answer_all_call pr ic cl draw t.now }
 {
     let code = frames::code_for(cl as u32, ic as u32);
     if !answers_code(pr, draw, t, code) {
-        return silence();
+        return None;
     }
     send_all_call(t.ca as u32, t.address, cl as u32, ic as u32)
 }

@@ -4,7 +4,6 @@ ghost use Rattle.model_rules.specs.CommB.{closes_for, closes, closeout};
 
 use crate::lockouts::iis;
 use crate::messages::drop_first;
-use crate::setters::with_holder;
 use model_rules::{Holder, Transponder};
 
 // Whether DI and SD close out what an II holds.
@@ -21,24 +20,21 @@ fn closes_for(ii: u8, di: u8, sd: u16) -> bool
 }
 
 // Whether a frame closes out, by who holds.
-fn closes(pc: u8, di: u8, sd: u16, h: Holder) -> bool
+fn closes(pc: u8, di: u8, sd: u16, h: Option<Holder>) -> bool
     ensures { result ≡ closes pc di sd h }
 {
     match h {
-        Holder::Nobody => pc == 4,
-        Holder::Held { ii, since: _ } => closes_for(ii, di, sd),
+        None => pc == 4,
+        Some(x) => closes_for(x.ii, di, sd),
     }
 }
 
 // The first message and the reservation go, where the frame closes out.
-pub(crate) fn closeout(pc: u8, di: u8, sd: u16, t: Transponder) -> Transponder
-    ensures { result ≡ closeout pc di sd t }
+pub(crate) fn closeout(pc: u8, di: u8, sd: u16, t: &mut Transponder)
+    ensures { t.new ≡ closeout pc di sd t.old }
 {
-    let h = t.holder;
-    if !closes(pc, di, sd, h) {
-        return t;
+    if closes(pc, di, sd, t.holder) {
+        t.holder = None;
+        drop_first(&mut t.messages);
     }
-    let mut u = with_holder(Holder::Nobody, t);
-    u.messages = drop_first(t.messages);
-    u
 }

@@ -1,79 +1,61 @@
 // A frame is taken at a time, with a draw.
-ghost use Rattle.std.specs.Prelude.{true, ◌≡◌};
-ghost use Rattle.lists.specs.Checks.{check};
+ghost use Rattle.std.specs.Prelude.{◌≡◌};
 ghost use Rattle.frames_rules.specs.Interrogations.{up_of};
-ghost use Rattle.model_rules.specs.Calls.{comes, not_taken, is_taken, taking};
+ghost use Rattle.model_rules.specs.Calls.{comes, taking};
+ghost use Rattle.model_rules.specs.Said.{went_as, took_as};
 
 use crate::lapses::lapse;
 use crate::selective::{all_call_comes, selective_comes};
-use crate::sending::time_alone;
 use frames::Up;
-use model_rules::{Took, Transponder, Went};
+use model_rules::{Sent, Transponder};
+use refusals::Refusal;
 
 // A frame comes once time has lapsed.
-fn comes(draw: u32, t: Transponder, frame: &[u8]) -> Went
-    ensures { result ≡ comes draw t (up_of frame.now) }
+fn comes(draw: u32, t: &mut Transponder, frame: &[u8]) -> Option<Sent>
+    ensures { went_as result t.new ≡ comes draw t.old (up_of frame.now) }
 {
     match frames::read_up(frame) {
-        Up::Selective {
-            uf,
-            pc,
-            rr,
-            di,
-            sd,
-            ma: _,
-            remainder,
-        } => selective_comes(uf, pc, rr, di, sd, remainder, t),
-        Up::AllCall {
-            pr,
-            ic,
-            cl,
-            remainder,
-        } => all_call_comes(pr, ic, cl, remainder, draw, t),
-        Up::Length => time_alone(t),
-        Up::Format => time_alone(t),
+        Ok(
+            Up::Selective {
+                uf,
+                pc,
+                rr,
+                di,
+                sd,
+                ma: _,
+                remainder,
+            },
+        ) => selective_comes(uf, pc, rr, di, sd, remainder, t),
+        Ok(
+            Up::AllCall {
+                pr,
+                ic,
+                cl,
+                remainder,
+            },
+        ) => all_call_comes(pr, ic, cl, remainder, draw, t),
+        Err(_) => None,
     }
 }
 
-// A refusal: nothing changes.
-fn not_taken(number: u8, t: Transponder) -> Took
-    ensures { result ≡ not_taken t (check number true) }
-{
-    Took {
-        number,
-        transponder: t,
-        length: 0,
-        reply: [0; 14],
-    }
-}
-
-// The transponder after a frame, and what it sends.
-fn is_taken(w: Went) -> Took
-    ensures { result ≡ is_taken w }
-{
-    let transponder = w.transponder;
-    let sent = w.sent;
-    let reply = sent.bytes;
-    Took {
-        number: 0,
-        transponder,
-        length: sent.length,
-        reply,
-    }
-}
-
-// Takes a frame.
-pub fn take(t: Transponder, time: u32, draw: u32, frame: &[u8]) -> Took
-    ensures { result ≡ taking t time draw frame.now }
+// Takes a frame: the reply to it, or none.
+pub fn take(
+    t: &mut Transponder,
+    time: u32,
+    draw: u32,
+    frame: &[u8],
+) -> Result<Option<Sent>, Refusal>
+    ensures { took_as result t.new ≡ taking t.old time draw frame.now }
 {
     if !parity::seven_or_fourteen(frame.len()) {
-        return not_taken(1, t);
+        return Err(Refusal::Length);
     }
     if 15 < draw {
-        return not_taken(2, t);
+        return Err(Refusal::Range);
     }
     if time < t.time {
-        return not_taken(15, t);
+        return Err(Refusal::Earlier);
     }
-    is_taken(comes(draw, lapse(time, t), frame))
+    lapse(time, t);
+    Ok(comes(draw, t, frame))
 }

@@ -12,11 +12,11 @@ mod reservations;
 mod responses;
 mod selective;
 mod sending;
-mod setters;
 mod timers;
 
 pub use frames_taken::take;
 pub use making::make;
 pub use messages::{count, queue};
-pub use model_rules::{Holder, Lock, Made, Messages, Queued, Timer, Timers, Took, Transponder};
-pub use timers::locks;
+pub use model_rules::{Holder, Messages, Sent, Timers, Transponder};
+pub use refusals::Refusal;
+pub use sending::bytes;

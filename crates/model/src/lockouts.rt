@@ -14,41 +14,41 @@ pub(crate) fn iis(sd: u16) -> u8
 }
 
 // The code that PC starts.
-fn command_of_pc(pc: u8) -> Interrogator
+fn command_of_pc(pc: u8) -> Option<Interrogator>
     ensures { result ≡ command_of_pc pc }
 {
     if pc == 1 {
-        return Interrogator::II(0);
+        return Some(Interrogator::II(0));
     }
-    Interrogator::Nobody
+    None
 }
 
 // The II that LOS starts.
-fn ii_started(sd: u16) -> Interrogator
+fn ii_started(sd: u16) -> Option<Interrogator>
     ensures { result ≡ started_by_los sd }
 {
     if (sd / 64) % 2 == 1 {
-        return Interrogator::II(iis(sd));
+        return Some(Interrogator::II(iis(sd)));
     }
-    Interrogator::Nobody
+    None
 }
 
 // The SI that LSS starts; SI 0 starts none.
-fn si_started(sd: u16) -> Interrogator
+fn si_started(sd: u16) -> Option<Interrogator>
     ensures { result ≡ started_by_lss sd }
 {
     if (sd / 512) % 2 != 1 {
-        return Interrogator::Nobody;
+        return None;
     }
     let si = (sd / 1024) % 64;
     if si == 0 {
-        return Interrogator::Nobody;
+        return None;
     }
-    Interrogator::SI(si as u8)
+    Some(Interrogator::SI(si as u8))
 }
 
 // The code that DI and SD start.
-fn command_of_sd(di: u8, sd: u16) -> Interrogator
+fn command_of_sd(di: u8, sd: u16) -> Option<Interrogator>
     ensures { result ≡ command_of_sd di sd }
 {
     if di == 3 {
@@ -60,15 +60,13 @@ fn command_of_sd(di: u8, sd: u16) -> Interrogator
     if di == 7 {
         return ii_started(sd);
     }
-    Interrogator::Nobody
+    None
 }
 
 // A frame's commands start their timers.
-pub(crate) fn lockout(pc: u8, di: u8, sd: u16, t: Transponder) -> Transponder
-    ensures { result ≡ lockout pc di sd t }
+pub(crate) fn lockout(pc: u8, di: u8, sd: u16, t: &mut Transponder)
+    ensures { t.new ≡ lockout pc di sd t.old }
 {
-    let mut u = t;
-    let x = start(t.timers, command_of_pc(pc), t.time);
-    u.timers = start(x, command_of_sd(di, sd), t.time);
-    u
+    start(&mut t.timers, command_of_pc(pc), t.time);
+    start(&mut t.timers, command_of_sd(di, sd), t.time);
 }

@@ -1,8 +1,10 @@
 // A transponder is made.
 ghost use Rattle.std.specs.Prelude.{◌≡◌, ◌<◌};
 ghost use Rattle.model_rules.specs.Calls.{make_ranged, newborn, making};
+ghost use Rattle.model_rules.specs.Said.{made_as};
 
-use model_rules::{Holder, Lock, Made, Messages, Timer, Timers, Transponder};
+use model_rules::{Messages, Timers, Transponder};
+use refusals::Refusal;
 
 // Whether the numbers of a transponder are in their ranges.
 fn make_ranged(address: u32, ac: u32, id: u32, fs: u32, ca: u32) -> bool
@@ -37,26 +39,18 @@ fn newborn(address: u32, ac: u16, id: u16, fs: u8, ca: u8) -> Transponder
         fs,
         ca,
         time: 0,
-        timers: Timers {
-            list: [Timer { lock: Lock::Never }; 79],
-        },
-        holder: Holder::Nobody,
+        timers: Timers { list: [None; 79] },
+        holder: None,
         messages: Messages { list: [0; 8], n: 0 },
     }
 }
 
 // Makes a transponder.
-pub fn make(address: u32, ac: u32, id: u32, fs: u32, ca: u32) -> Made
-    ensures { result ≡ making address ac id fs ca }
+pub fn make(address: u32, ac: u32, id: u32, fs: u32, ca: u32) -> Result<Transponder, Refusal>
+    ensures { made_as result ≡ making address ac id fs ca }
 {
     if !make_ranged(address, ac, id, fs, ca) {
-        return Made {
-            number: 2,
-            transponder: newborn(0, 0, 0, 0, 0),
-        };
+        return Err(Refusal::Range);
     }
-    Made {
-        number: 0,
-        transponder: newborn(address, ac as u16, id as u16, fs as u8, ca as u8),
-    }
+    Ok(newborn(address, ac as u16, id as u16, fs as u8, ca as u8))
 }

@@ -4,7 +4,6 @@ ghost use Rattle.model_rules.specs.CommB.{asks_to_hold, nobody_else, reserve};
 
 use crate::lockouts::iis;
 use crate::messages::waits;
-use crate::setters::with_holder;
 use model_rules::{Holder, Transponder};
 
 // Whether DI and SD ask for the reservation.
@@ -21,29 +20,18 @@ fn asks_to_hold(di: u8, sd: u16) -> bool
 }
 
 // Whether nobody else than an II holds it.
-fn nobody_else(ii: u8, h: Holder) -> bool
+fn nobody_else(ii: u8, h: Option<Holder>) -> bool
     ensures { result ≡ nobody_else ii h }
 {
-    match h {
-        Holder::Nobody => true,
-        Holder::Held { ii: held, since: _ } => held == ii,
-    }
+    h.is_none_or(|x| x.ii == ii)
 }
 
 // The reservation, or its restart, where it is asked for and may be had.
-pub(crate) fn reserve(di: u8, sd: u16, t: Transponder) -> Transponder
-    ensures { result ≡ reserve di sd t }
+pub(crate) fn reserve(di: u8, sd: u16, t: &mut Transponder)
+    ensures { t.new ≡ reserve di sd t.old }
 {
-    if !asks_to_hold(di, sd) {
-        return t;
-    }
-    if !waits(t.messages) {
-        return t;
-    }
     let ii = iis(sd);
-    let h = t.holder;
-    if !nobody_else(ii, h) {
-        return t;
+    if asks_to_hold(di, sd) && waits(&t.messages) && nobody_else(ii, t.holder) {
+        t.holder = Some(Holder { ii, since: t.time });
     }
-    with_holder(Holder::Held { ii, since: t.time }, t)
 }

@@ -6,9 +6,11 @@ use mathlib.Core.List.{List}
 use lib.Dec.{eqb}
 use lib.ListN.{length, replicate}
 use borrow.Author.Tests.{eqb-true, leb-false, ltb-false, not-false}
+use Rattle.std.specs.Prelude.{Some, Result, Ok, Err}
 use Rattle.lists.specs.Lists.{pick}
 use Rattle.lists.specs.Checks.{Check}
 use Rattle.lists.proofs.Checks.{Passed, CameTo, was_refused, was_done, came_to}
+use Rattle.refusals.specs.declared.refusal.Refusal.{Refusal}
 use Rattle.parity_rules.specs.Messages.{AreBytes}
 use Rattle.frames_rules.specs.Building.{replying}
 use Rattle.frames_rules.specs.Bytes.{number_of_bytes}
@@ -17,11 +19,8 @@ use Rattle.frames_rules.specs.Shared.{drawn}
 use Rattle.frames_rules.specs.Interrogations.{up_of}
 use Rattle.frames_rules.specs.declared.answers.Up.{Up}
 use Rattle.frames_rules.specs.declared.answers.Up.TheVariants as up
-use Rattle.frames_rules.specs.declared.answers.Draws.TheVariants.{Format}
 use Rattle.model_rules.specs.declared.state.Transponder.{Transponder}
-use Rattle.model_rules.specs.declared.state.Queued.{Queued}
-use Rattle.model_rules.specs.declared.state.Went.{Went}
-use Rattle.model_rules.specs.declared.state.Took.{Took}
+use Rattle.model_rules.specs.Answers.{Queued, Took, Went}
 use Rattle.model_rules.specs.State.{waiting, messages_with, with_messages}
 use Rattle.model_rules.specs.Lapse.{lapse}
 use Rattle.model_rules.specs.Replies.{silence, sending, dr_of, um_of, mb_of, value_of, respond}
@@ -37,10 +36,10 @@ of_pick P true x y p q = p
 of_pick P false x y p q = q
 
 -- what a frame does after the lapse: nothing, or the steps of a selective interrogation for this aircraft
-pub data Stepped (t : Transponder) : Up → Transponder → Type 0 where
-  still : {x : Up} {u : Transponder} → NotFor t.address x → u ≡ t → Stepped t x u
+pub data Stepped (t : Transponder) : Result Up Refusal → Transponder → Type 0 where
+  still : {x : Result Up Refusal} {u : Transponder} → NotFor t.address x → u ≡ t → Stepped t x u
   did_steps : {u : Transponder} (uf pc rr di sd ma r : ℕ) → laid_over t.address r ≡ true → u ≡ steps pc di sd t
-      → Stepped t (up.Selective uf pc rr di sd ma r) u
+      → Stepped t (Ok (up.Selective uf pc rr di sd ma r)) u
 
 -- ---- what a call can come to: it is refused and nothing changes; a message is queued; time lapses, and the frame comes
 pub data Came (t : Transponder) : Call → Afterwards → Type 0 where
@@ -51,17 +50,16 @@ pub data Came (t : Transponder) : Call → Afterwards → Type 0 where
       → r ≡ leaving u → Came t (take time draw f) r
 
 -- ---- a frame comes
-pub what_comes : (draw : ℕ) (t : Transponder) (x : Up) → Stepped t x (comes draw t x).transponder
+pub what_comes : (draw : ℕ) (t : Transponder) (x : Result Up Refusal) → Stepped t x (comes draw t x).transponder
 unfolding comes selective_comes interrogated all_call_comes
-what_comes draw t (up.Selective uf pc rr di sd ma r) = go (laid_over t.address r) refl
+what_comes draw t (Ok (up.Selective uf pc rr di sd ma r)) = go (laid_over t.address r) refl
   where
     go : (b : Bool) → laid_over t.address r ≡ b
-        → Stepped t (up.Selective uf pc rr di sd ma r) (pick b (interrogated uf pc rr di sd t) (time_alone t)).transponder
+        → Stepped t (Ok (up.Selective uf pc rr di sd ma r)) (pick b (interrogated uf pc rr di sd t) (time_alone t)).transponder
     go true e = did_steps uf pc rr di sd ma r e refl
     go false e = still e refl
-what_comes draw t (up.AllCall pr ic cl r) = still tt (of_pick (λ (w : Went). w.transponder ≡ t) (laid_over 0xFFFFFF r) _ (time_alone t) refl refl)
-what_comes draw t up.Length = still tt refl
-what_comes draw t up.Format = still tt refl
+what_comes draw t (Ok (up.AllCall pr ic cl r)) = still tt (of_pick (λ (w : Went). w.transponder ≡ t) (laid_over 0xFFFFFF r) _ (time_alone t) refl refl)
+what_comes draw t (Err r) = still tt refl
 
 -- ---- every call, by its table
 abbrev pub took : Transponder → ℕ → ℕ → List ℕ → Took
@@ -129,18 +127,16 @@ taken_is t time draw f n = go (taking t time draw f) n (frame_came t time draw f
     go r n (was_done p g e) = (in_time t time draw f p, e)
 
 -- a frame is for others: a selective interrogation over another address, an all-call not over FFFFFF, of another format or of the wrong length for it
-abbrev pub ForOthers : ℕ → Up → Type 0
-ForOthers address (up.Selective uf pc rr di sd ma r) = laid_over address r ≡ false
-ForOthers address (up.AllCall pr ic cl r) = laid_over 0xFFFFFF r ≡ false
-ForOthers address up.Length = Unit {0}
-ForOthers address up.Format = Unit {0}
+abbrev pub ForOthers : ℕ → Result Up Refusal → Type 0
+ForOthers address (Ok (up.Selective uf pc rr di sd ma r)) = laid_over address r ≡ false
+ForOthers address (Ok (up.AllCall pr ic cl r)) = laid_over 0xFFFFFF r ≡ false
+ForOthers address (Err r) = Unit {0}
 
-passes_by : (draw : ℕ) (t : Transponder) (x : Up) → ForOthers t.address x → comes draw t x ≡ time_alone t
+passes_by : (draw : ℕ) (t : Transponder) (x : Result Up Refusal) → ForOthers t.address x → comes draw t x ≡ time_alone t
 unfolding comes selective_comes all_call_comes
-passes_by draw t (up.Selective uf pc rr di sd ma r) l = rw l
-passes_by draw t (up.AllCall pr ic cl r) l = rw l
-passes_by draw t up.Length l = refl
-passes_by draw t up.Format l = refl
+passes_by draw t (Ok (up.Selective uf pc rr di sd ma r)) l = rw l
+passes_by draw t (Ok (up.AllCall pr ic cl r)) l = rw l
+passes_by draw t (Err r) l = refl
 
 -- it changes time alone, and gets no reply
 pub for_others : (t : Transponder) (time draw : ℕ) (f : List ℕ) → (taking t time draw f).number ≡ 0 → ForOthers t.address (up_of f)
@@ -149,7 +145,7 @@ unfolding lapse
 for_others t time draw f n l = (taken_is t time draw f n).1 ∙ ap is_taken (passes_by draw (lapse time t) (up_of f) l)
 
 -- ---- DR, UM and MB of a reply are those of the state after the closeout
-pub reply_after_closeout : (uf pc rr di sd df : ℕ) (t : Transponder) → drawn uf rr ≡ Format df
+pub reply_after_closeout : (uf pc rr di sd df : ℕ) (t : Transponder) → drawn uf rr ≡ Some df
     → let u = (interrogated uf pc rr di sd t).transponder in
     (interrogated uf pc rr di sd t).sent ≡ sending
     (replying df u.fs (dr_of u.messages) (um_of di sd u.holder) (value_of uf u) (mb_of rr di sd u.messages) u.address (replicate (length_of df) 0))

@@ -5,11 +5,12 @@ use mathlib.Core.Path.{◌≡◌, refl, sym, ap, ◌∙◌}
 use mathlib.Core.Bool.{Bool, true, false, ◌&&◌, not}
 use lib.Dec.{leb, ltb}
 use borrow.Author.Tests.{leb-true, le-leb, lt-leb, ltb-true, lt-ltb}
+use Rattle.std.specs.Prelude.{Some, None}
 use Rattle.lists.specs.Lists.{pick, count_below}
 use Rattle.lists.proofs.Tests.{and_true, and_yes}
 use Rattle.frames_rules.specs.Shared.{code_for}
 use Rattle.frames_rules.specs.declared.answers.Interrogator.{Interrogator}
-use Rattle.frames_rules.specs.declared.answers.Interrogator.TheVariants.{II, SI, Nobody}
+use Rattle.frames_rules.specs.declared.answers.Interrogator.TheVariants.{II, SI}
 use Rattle.model_rules.specs.declared.state.Transponder.{Transponder}
 use Rattle.model_rules.specs.Lockout.{locked_to}
 use Rattle.model_rules.specs.Replies.{draws_below, free, answers_free, answers_code, answers}
@@ -53,10 +54,10 @@ no_draw pr h n = rw (lt-leb pr 4 h) (go (leb 8 pr) (leb pr 12) refl refl)
     go false b p q = refl
 
 -- ---- when an all-call of a code is answered: its lock, unless PR is 8 or more, and its draw
-module _ (pr ic cl draw : ℕ) (t : Transponder) (c : Interrogator) (somebody : answers_code pr draw t c ≡ answers_free pr draw c t) (e : code_for cl ic ≡ c) where
+module _ (pr ic cl draw : ℕ) (t : Transponder) (c : Interrogator) (e : code_for cl ic ≡ Some c) where
   is : answers pr ic cl draw t ≡ answers_free pr draw c t
   unfolding answers
-  is = ap (answers_code pr draw t) e ∙ somebody
+  is = ap (answers_code pr draw t) e
 
   pub answered_then : answers pr ic cl draw t ≡ true → (free pr c t ≡ true) × (draw < draws_below pr)
   answered_then h =
@@ -67,24 +68,24 @@ module _ (pr ic cl draw : ℕ) (t : Transponder) (c : Interrogator) (somebody : 
   answered_when f d = is ∙ and_yes (free pr c t) (ltb draw (draws_below pr)) f (lt-ltb draw (draws_below pr) d)
 
 -- an II's or an SI's all-call is answered exactly then
-pub ii_answered : (pr ic cl draw n : ℕ) (t : Transponder) → code_for cl ic ≡ II n → answers pr ic cl draw t ≡ true
+pub ii_answered : (pr ic cl draw n : ℕ) (t : Transponder) → code_for cl ic ≡ Some (II n) → answers pr ic cl draw t ≡ true
     → (free pr (II n) t ≡ true) × (draw < draws_below pr)
-ii_answered pr ic cl draw n t e h = answered_then pr ic cl draw t (II n) refl e h
+ii_answered pr ic cl draw n t e h = answered_then pr ic cl draw t (II n) e h
 
-pub ii_answers : (pr ic cl draw n : ℕ) (t : Transponder) → code_for cl ic ≡ II n → free pr (II n) t ≡ true → draw < draws_below pr
+pub ii_answers : (pr ic cl draw n : ℕ) (t : Transponder) → code_for cl ic ≡ Some (II n) → free pr (II n) t ≡ true → draw < draws_below pr
     → answers pr ic cl draw t ≡ true
-ii_answers pr ic cl draw n t e f d = answered_when pr ic cl draw t (II n) refl e f d
+ii_answers pr ic cl draw n t e f d = answered_when pr ic cl draw t (II n) e f d
 
-pub si_answered : (pr ic cl draw n : ℕ) (t : Transponder) → code_for cl ic ≡ SI n → answers pr ic cl draw t ≡ true
+pub si_answered : (pr ic cl draw n : ℕ) (t : Transponder) → code_for cl ic ≡ Some (SI n) → answers pr ic cl draw t ≡ true
     → (free pr (SI n) t ≡ true) × (draw < draws_below pr)
-si_answered pr ic cl draw n t e h = answered_then pr ic cl draw t (SI n) refl e h
+si_answered pr ic cl draw n t e h = answered_then pr ic cl draw t (SI n) e h
 
-pub si_answers : (pr ic cl draw n : ℕ) (t : Transponder) → code_for cl ic ≡ SI n → free pr (SI n) t ≡ true → draw < draws_below pr
+pub si_answers : (pr ic cl draw n : ℕ) (t : Transponder) → code_for cl ic ≡ Some (SI n) → free pr (SI n) t ≡ true → draw < draws_below pr
     → answers pr ic cl draw t ≡ true
-si_answers pr ic cl draw n t e f d = answered_when pr ic cl draw t (SI n) refl e f d
+si_answers pr ic cl draw n t e f d = answered_when pr ic cl draw t (SI n) e f d
 
 -- "SI 0 and CL 5 to 7 get no reply"
-pub nobody_answered : (pr ic cl draw : ℕ) (t : Transponder) → code_for cl ic ≡ Nobody → answers pr ic cl draw t ≡ false
+pub nobody_answered : (pr ic cl draw : ℕ) (t : Transponder) → code_for cl ic ≡ None → answers pr ic cl draw t ≡ false
 unfolding answers
 nobody_answered pr ic cl draw t e = rw e
 

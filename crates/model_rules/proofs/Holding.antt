@@ -8,14 +8,15 @@ use mathlib.Core.Logic.{◌⊎◌, inl, inr}
 use lib.ListN as list
 use lib.ListN.{length, drop, length-append}
 use borrow.Author.Tests.{ne_eqb}
+use Rattle.std.specs.Prelude.{Result, Option, Some, None}
 use Rattle.lists.proofs.Over.{take_over}
+use Rattle.refusals.specs.declared.refusal.Refusal.{Refusal}
 use Rattle.frames_rules.specs.Interrogations.{up_of}
 use Rattle.frames_rules.specs.declared.answers.Up.{Up}
 use Rattle.model_rules.specs.declared.state.Holder.{Holder}
-use Rattle.model_rules.specs.declared.state.Holder.TheVariants.{Nobody, Held}
 use Rattle.model_rules.specs.declared.state.Messages.{Messages}
 use Rattle.model_rules.specs.declared.state.Transponder.{Transponder}
-use Rattle.model_rules.specs.State.{waiting, waits, messages_with, messages_after, with_holder, with_messages}
+use Rattle.model_rules.specs.State.{held_since, waiting, waits, messages_with, messages_after, with_holder, with_messages}
 use Rattle.model_rules.specs.Lapse.{is_over, holder_after, lapse}
 use Rattle.model_rules.specs.Lockout.{iis, commanded, lockout}
 use Rattle.model_rules.specs.CommB.{asks_to_hold, nobody_else, reserve, closes, closeout}
@@ -58,13 +59,13 @@ closeout_one : (pc di sd : ℕ) (t : Transponder) → AtMostOne t.messages (clos
 unfolding closeout
 closeout_one pc di sd t =
     of_pick (λ (u : Transponder). AtMostOne t.messages u.messages) (closes pc di sd t.holder)
-    (with_messages (messages_after t.messages) (with_holder Nobody t)) t (inr (waiting_after t.messages)) (inl refl)
+    (with_messages (messages_after t.messages) (with_holder None t)) t (inr (waiting_after t.messages)) (inl refl)
 
 reserve_same : (di sd : ℕ) (t : Transponder) → (reserve di sd t).messages ≡ t.messages
 unfolding reserve
 reserve_same di sd t =
     of_pick (λ (u : Transponder). u.messages ≡ t.messages) (asks_to_hold di sd && waits t.messages && nobody_else (iis sd) t.holder)
-    (with_holder (Held (iis sd) t.time) t) t refl refl
+    (with_holder (held_since (iis sd) t.time) t) t refl refl
 
 lockout_same : (pc di sd : ℕ) (t : Transponder) → (lockout pc di sd t).messages ≡ t.messages
 unfolding lockout commanded
@@ -81,7 +82,7 @@ steps_one pc di sd t =
     (reserve_same di sd (lockout pc di sd t) ∙ lockout_same pc di sd t)
     (closeout_one pc di sd (reserve di sd (lockout pc di sd t)))
 
-stepped_one : (t : Transponder) (x : Up) (u : Transponder) → Stepped t x u → AtMostOne t.messages u.messages
+stepped_one : (t : Transponder) (x : Result Up Refusal) (u : Transponder) → Stepped t x u → AtMostOne t.messages u.messages
 stepped_one t x u (still n e) = inl (ap (λ (w : Transponder). waiting w.messages) e)
 stepped_one t x u (did_steps uf pc rr di sd ma r l e) = subst (λ (w : Transponder). AtMostOne t.messages w.messages) (sym e) (steps_one pc di sd t)
 
@@ -100,16 +101,16 @@ one_waits v m =
     let e : length (waiting (messages_with v m)) ≡ length (waiting m) + 1 = ap length (waiting_with_is v m) ∙ length-append (waiting m) (v ∷ []) in
     ap not (ne_eqb (length (waiting (messages_with v m))) 0 (λ q. omega arith))
 
-any_holder : (h : Holder) (m : Messages) → waits m ≡ true → held_waits h m ≡ true
-any_holder Nobody m w = refl
-any_holder (Held ii s) m w = w
+any_holder : (h : Option Holder) (m : Messages) → waits m ≡ true → held_waits h m ≡ true
+any_holder None m w = refl
+any_holder (Some h) m w = w
 
 pub queued_held : (v : ℕ) (t : Transponder) → HeldWaits (with_messages (messages_with v t.messages) t)
 queued_held v t = any_holder t.holder (messages_with v t.messages) (one_waits v t.messages)
 
-holder_held : (now : ℕ) (h : Holder) (m : Messages) → held_waits h m ≡ true → held_waits (holder_after now h) m ≡ true
-holder_held now Nobody m w = refl
-holder_held now (Held ii s) m w = of_pick (λ (h : Holder). held_waits h m ≡ true) (is_over now s) Nobody (Held ii s) refl w
+holder_held : (now : ℕ) (h : Option Holder) (m : Messages) → held_waits h m ≡ true → held_waits (holder_after now h) m ≡ true
+holder_held now None m w = refl
+holder_held now (Some x) m w = of_pick (λ (h : Option Holder). held_waits h m ≡ true) (is_over now x.since) None (Some x) refl w
 
 pub lapse_held : (now : ℕ) (t : Transponder) → HeldWaits t → HeldWaits (lapse now t)
 unfolding lapse

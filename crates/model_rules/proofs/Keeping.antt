@@ -5,32 +5,34 @@ use mathlib.Core.Path.{◌≡◌, refl, sym, ap, ◌∙◌, subst}
 use mathlib.Core.Bool.{Bool, true, false, ◌&&◌}
 use mathlib.Core.List.{List, [], ◌∷◌}
 use lib.Dec.{eqb, leb}
-use lib.ListN.{length, drop, length-append, length-drop, length-map, length-set}
+use lib.ListN.{length, drop, length-append, length-drop, length-map}
 use borrow.Author.Tests.{leb-true, not-false}
+use Rattle.std.specs.Prelude.{Result, Option, Some, None}
 use Rattle.lists.specs.Lists.{pick, All}
 use Rattle.lists.specs.Checks.{Check, checked}
 use Rattle.lists.proofs.Checks.{CameTo, was_refused, was_done, came_to}
 use Rattle.lists.proofs.Tests.{and_true}
 use Rattle.lists.proofs.Held.{all_snoc}
+use Rattle.refusals.specs.declared.refusal.Refusal.{Refusal}
 use Rattle.parity_rules.specs.Messages.{AreBytes}
 use Rattle.frames_rules.specs.Bytes.{number_of_bytes}
 use Rattle.frames_rules.specs.Interrogations.{up_of}
 use Rattle.frames_rules.specs.declared.answers.Up.{Up}
 use Rattle.frames_rules.proofs.Numbers.{number_lt}
 use Rattle.model_rules.specs.declared.state.Holder.{Holder}
-use Rattle.model_rules.specs.declared.state.Holder.TheVariants.{Nobody, Held}
 use Rattle.model_rules.specs.declared.state.Messages.{Messages}
 use Rattle.model_rules.specs.declared.state.Timers.{Timers}
-use Rattle.model_rules.specs.declared.state.Made.{Made}
+use Rattle.model_rules.specs.Answers.{Made}
 use Rattle.model_rules.specs.declared.state.Transponder.{Transponder}
-use Rattle.model_rules.specs.State.{waiting, waits, started, keeping, messages_with, messages_after, with_holder, with_messages}
+use Rattle.model_rules.specs.State.{held_since, waiting, waits, keeping, messages_with, messages_after, with_holder, with_messages}
 use Rattle.model_rules.specs.Lapse.{is_over, timer_after, timers_after, holder_after, lapse}
-use Rattle.model_rules.specs.Lockout.{iis, commanded, lockout}
+use Rattle.model_rules.specs.Lockout.{iis, command_of_pc, command_of_sd, commanded, lockout}
 use Rattle.model_rules.specs.CommB.{mbs, asks_to_hold, nobody_else, reserve, closes, closeout}
 use Rattle.model_rules.specs.Calls.{newborn, make_ranged, making_checks, not_made, is_made, making, steps}
 use Rattle.model_rules.specs.History.{Aircraft, made, Call, queue, Afterwards, answer, after}
 use Rattle.model_rules.specs.Kept.{HolderIn, Of56Bits, As, Kept}
 use Rattle.model_rules.proofs.Came.{of_pick, Stepped, still, did_steps, Came, refusal, did_queue, did_take, came}
+use Rattle.model_rules.proofs.Timing.{started_by_length}
 use Rattle.model_rules.proofs.Holding.{waiting_after, waiting_with_is, queued_held, lapse_held}
 
 -- ---- a making that is not refused
@@ -74,7 +76,7 @@ number_in m b e = rw e at (number_lt m b)
 
 -- ---- each step keeps it
 module _ (a : Aircraft) where
-  as_made : (t : Transponder) (now : ℕ) (x : Timers) (h : Holder) (m : Messages) → As a t → As a (keeping t now x h m)
+  as_made : (t : Transponder) (now : ℕ) (x : Timers) (h : Option Holder) (m : Messages) → As a t → As a (keeping t now x h m)
   as_made t now x h m k = record { address = k.address; ac = k.ac; id = k.id; fs = k.fs; ca = k.ca }
 
   kept_queue : (t : Transponder) (m : List ℕ) → AreBytes m → length m ≡ 7 → length (waiting t.messages) < 8 → Kept a t
@@ -93,9 +95,9 @@ module _ (a : Aircraft) where
         timers = k.timers;
       }
 
-  holder_in : (now : ℕ) (h : Holder) → HolderIn h → HolderIn (holder_after now h)
-  holder_in now Nobody k = tt
-  holder_in now (Held ii s) k = of_pick HolderIn (is_over now s) Nobody (Held ii s) tt k
+  holder_in : (now : ℕ) (h : Option Holder) → HolderIn h → HolderIn (holder_after now h)
+  holder_in now None k = tt
+  holder_in now (Some h) k = of_pick HolderIn (is_over now h.since) None (Some h) tt k
 
   pub kept_lapse : (now : ℕ) (t : Transponder) → Kept a t → Kept a (lapse now t)
   unfolding lapse timers_after
@@ -111,7 +113,7 @@ module _ (a : Aircraft) where
       }
 
   kept_lockout : (pc di sd : ℕ) (t : Transponder) → Kept a t → Kept a (lockout pc di sd t)
-  unfolding lockout commanded started
+  unfolding lockout commanded
   kept_lockout pc di sd t k =
       record {
         same = as_made t _ _ _ _ k.same;
@@ -120,7 +122,8 @@ module _ (a : Aircraft) where
         holder = k.holder;
         messages = k.messages;
         eight = k.eight;
-        timers = simp length-set k.timers;
+        timers =
+            started_by_length (command_of_sd di sd) t.time _ ∙ started_by_length (command_of_pc pc) t.time t.timers ∙ k.timers;
       }
 
   iis_in : (di sd : ℕ) → asks_to_hold di sd ≡ true → (1 ≤ iis sd) × (iis sd ≤ 15)
@@ -130,7 +133,7 @@ module _ (a : Aircraft) where
   unfolding reserve
   kept_reserve di sd t k = go (asks_to_hold di sd) (waits t.messages) (nobody_else (iis sd) t.holder) refl refl
     where
-      go : (x y z : Bool) → asks_to_hold di sd ≡ x → waits t.messages ≡ y → Kept a (pick (x && y && z) (with_holder (Held (iis sd) t.time) t) t)
+      go : (x y z : Bool) → asks_to_hold di sd ≡ x → waits t.messages ≡ y → Kept a (pick (x && y && z) (with_holder (held_since (iis sd) t.time) t) t)
       go false y z p q = k
       go true false z p q = k
       go true true false p q = k
@@ -166,7 +169,7 @@ module _ (a : Aircraft) where
   unfolding steps
   kept_steps pc di sd t k = kept_closeout pc di sd (reserve di sd (lockout pc di sd t)) (kept_reserve di sd (lockout pc di sd t) (kept_lockout pc di sd t k))
 
-  kept_stepped : (t : Transponder) (x : Up) (u : Transponder) → Stepped t x u → Kept a t → Kept a u
+  kept_stepped : (t : Transponder) (x : Result Up Refusal) (u : Transponder) → Stepped t x u → Kept a t → Kept a u
   kept_stepped t x u (still n e) k = subst (Kept a) (sym e) k
   kept_stepped t x u (did_steps uf pc rr di sd ma r l e) k = subst (Kept a) (sym e) (kept_steps pc di sd t k)
 
@@ -200,7 +203,7 @@ pub lapse_time : (now : ℕ) (t : Transponder) → (lapse now t).time ≡ now
 unfolding lapse
 lapse_time now t = refl
 
-pub stepped_time : (t : Transponder) (x : Up) (u : Transponder) → Stepped t x u → u.time ≡ t.time
+pub stepped_time : (t : Transponder) (x : Result Up Refusal) (u : Transponder) → Stepped t x u → u.time ≡ t.time
 stepped_time t x u (still n e) = ap (λ (w : Transponder). w.time) e
 stepped_time t x u (did_steps uf pc rr di sd ma r l e) = ap (λ (w : Transponder). w.time) e ∙ steps_time pc di sd t
 

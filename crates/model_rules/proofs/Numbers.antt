@@ -4,9 +4,7 @@ use mathlib.Core.Path.{◌≡◌, ap, ◌∙◌}
 use lib.ListN.{length}
 use Rattle.lists.specs.Checks.{given}
 use Rattle.lists.proofs.Checks.{view}
-use Rattle.model_rules.specs.declared.state.Made.{Made}
-use Rattle.model_rules.specs.declared.state.Queued.{Queued}
-use Rattle.model_rules.specs.declared.state.Took.{Took}
+use Rattle.model_rules.specs.Answers.{Made, Queued, Took}
 use Rattle.model_rules.specs.declared.state.Transponder.{Transponder}
 use Rattle.model_rules.specs.State.{waiting}
 use Rattle.model_rules.specs.Calls.{making_checks, making, queuing_checks, queuing, taking_checks, taking}

@@ -7,6 +7,7 @@ use mathlib.Core.List.{List, [], ◌∷◌}
 use lib.Dec.{eqb, leb}
 use lib.ListN.{length, get_or, length-replicate}
 use borrow.Author.Tests.{eqb-true, eq-eqb, le-leb}
+use Rattle.std.specs.Prelude.{Some, Ok, Option, None}
 use Rattle.lists.specs.Lists.{pick, All}
 use Rattle.lists.specs.Checks.{checked}
 use Rattle.lists.proofs.Tests.{and_true, and_yes}
@@ -16,12 +17,9 @@ use Rattle.frames_rules.specs.Interrogations.{up_of}
 use Rattle.frames_rules.specs.Shared.{short_reply, drawn}
 use Rattle.frames_rules.specs.declared.answers.Up.TheVariants as up
 use Rattle.frames_rules.proofs.Interrogations.{InFields, in_fields}
-use Rattle.frames_rules.specs.declared.answers.Draws.TheVariants.{Format}
-use Rattle.frames_rules.specs.declared.answers.Interrogator.TheVariants.{Nobody}
 use Rattle.model_rules.specs.declared.state.Holder.{Holder}
-use Rattle.model_rules.specs.declared.state.Holder.TheVariants as holder
 use Rattle.model_rules.specs.declared.state.Messages.{Messages}
-use Rattle.model_rules.specs.declared.state.Sent.{Sent}
+use Rattle.model_rules.specs.Answers.{Sent}
 use Rattle.model_rules.specs.declared.state.Transponder.{Transponder}
 use Rattle.model_rules.specs.State.{waiting, waits}
 use Rattle.model_rules.specs.Replies.{sent_bytes, sending, dr_of, hides_um, um_of, bds2, mb_of, respond}
@@ -47,16 +45,16 @@ drawn_is uf rr = go (leb 16 rr) refl (eqb uf 4 || eqb uf 20)
     go false h true = record { listed = refl; long = λ q. absurd (false≢true (sym h ∙ ap (leb 16) q)) }
     go false h false = record { listed = refl; long = λ q. absurd (false≢true (sym h ∙ ap (leb 16) q)) }
 
-drawn_format : (uf rr : ℕ) → surveillance uf ≡ true → rr ≤ 31 → drawn uf rr ≡ Format (format_drawn uf rr)
+drawn_format : (uf rr : ℕ) → surveillance uf ≡ true → rr ≤ 31 → drawn uf rr ≡ Some (format_drawn uf rr)
 unfolding drawn
 drawn_format uf rr p q = rw (p, le-leb rr 31 q) (go (leb 16 rr))
   where
-    go : (b : Bool) → pick b (Format (short_reply uf + 16)) (Format (short_reply uf)) ≡ Format (pick b (short_reply uf + 16) (short_reply uf))
+    go : (b : Bool) → pick b (Some (short_reply uf + 16)) (Some (short_reply uf)) ≡ Some (pick b (short_reply uf + 16) (short_reply uf))
     go true = refl
     go false = refl
 
 -- a selective interrogation always draws a format
-pub always_drawn : (f : List ℕ) (uf pc rr di sd ma r : ℕ) → up_of f ≡ up.Selective uf pc rr di sd ma r → drawn uf rr ≡ Format (format_drawn uf rr)
+pub always_drawn : (f : List ℕ) (uf pc rr di sd ma r : ℕ) → up_of f ≡ Ok (up.Selective uf pc rr di sd ma r) → drawn uf rr ≡ Some (format_drawn uf rr)
 always_drawn f uf pc rr di sd ma r e = let i = subst InFields e (in_fields f) in drawn_format uf rr i.0 i.1
 
 -- ---- every field of a reply is in its range
@@ -82,11 +80,11 @@ mb_in df rr di sd m d h = go (eqb rr 16) refl (eqb (bds2 di sd) 0)
     go true e false = refl
     go false e y = refl
 
-um_in : (di sd : ℕ) (h : Holder) → HolderIn h → um_of di sd h ≤ 63
-um_in di sd holder.Nobody k = omega arith
-um_in di sd (holder.Held ii s) k = go (hides_um di sd)
+um_in : (di sd : ℕ) (h : Option Holder) → HolderIn h → um_of di sd h ≤ 63
+um_in di sd None k = omega arith
+um_in di sd (Some h) k = go (hides_um di sd)
   where
-    go : (b : Bool) → pick b 0 (4 * ii + 1) ≤ 63
+    go : (b : Bool) → pick b 0 (4 * h.ii + 1) ≤ 63
     go true = omega arith
     go false = let j = k.1 in omega (arith, j)
 
@@ -126,9 +124,9 @@ dr_is : (w : List ℕ) → pick (not (eqb (length w) 0)) 1 0 ≡ shows_dr w
 dr_is [] = refl
 dr_is (m ∷ ms) = rw (some_wait m ms)
 
-um_is : (di sd : ℕ) (h : Holder) → um_of di sd h ≡ shows_um di sd h
-um_is di sd holder.Nobody = refl
-um_is di sd (holder.Held ii s) = refl
+um_is : (di sd : ℕ) (h : Option Holder) → um_of di sd h ≡ shows_um di sd h
+um_is di sd None = refl
+um_is di sd (Some h) = refl
 
 mb_is : (rr di sd : ℕ) (w : List ℕ) → pick (eqb rr 16 && eqb (bds2 di sd) 0) (get_or w 0 0) 0 ≡ shows_mb rr di sd w
 mb_is rr di sd [] = of_pick (λ (n : ℕ). n ≡ 0) (eqb rr 16 && eqb (bds2 di sd) 0) 0 0 refl refl
@@ -157,13 +155,13 @@ module _ (a : Aircraft) (u : Transponder) (k : Kept a u) (s : Told) (g : Agree u
   abbrev replying_with : ℕ → ℕ → ℕ → Sent
   replying_with dr um mb = sent_bytes (a_reply df a.fs dr um (value_for uf a) mb a.address)
 
-  responds : drawn uf rr ≡ Format df → respond uf rr di sd u ≡ replying_with (dr_of u.messages) (um_of di sd u.holder) (mb_of rr di sd u.messages)
+  responds : drawn uf rr ≡ Some df → respond uf rr di sd u ≡ replying_with (dr_of u.messages) (um_of di sd u.holder) (mb_of rr di sd u.messages)
   unfolding checked respond replying sending
   responds e =
       let long = eq-eqb (length_of df) (length_of df) refl in
       rw (e, k.same.fs, k.same.ac, k.same.id, k.same.address, (drawn_is uf rr).listed, length-replicate {A = ℕ} (length_of df) 0, long, reply_ranged_is)
 
-  pub told_response : drawn uf rr ≡ Format df → respond uf rr di sd u ≡ sent_bytes (reply_on a s uf rr di sd)
+  pub told_response : drawn uf rr ≡ Some df → respond uf rr di sd u ≡ sent_bytes (reply_on a s uf rr di sd)
   told_response e =
       let dr : dr_of u.messages ≡ shows_dr s.messages = dr_is (waiting u.messages) ∙ ap shows_dr g.messages in
       let um : um_of di sd u.holder ≡ shows_um di sd (held_by s) = um_is di sd u.holder ∙ ap (shows_um di sd) g.holder in

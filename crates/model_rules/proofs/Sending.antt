@@ -1,19 +1,18 @@
 -- Theorem of replies: to every frame of a history exactly the bytes are sent that the calls alone tell, or none.
 use Prim.Native.Nat.{ℕ, ◌≤◌}
-use native.Mathlib.Omega.{arith}
 use mathlib.Core.Path.{◌≡◌, refl, sym, ap, ◌∙◌, subst}
-use mathlib.Core.Bool.{Bool, true, false, ◌&&◌}
+use mathlib.Core.Bool.{Bool, true, false}
 use mathlib.Core.List.{List, ◌∷◌}
 use lib.Dec.{eqb}
 use borrow.Author.Tests.{eqb-true, eqb-false}
+use Rattle.std.specs.Prelude.{Result, Ok, Err}
 use Rattle.lists.specs.Lists.{pick}
+use Rattle.refusals.specs.declared.refusal.Refusal.{Refusal}
 use Rattle.frames_rules.specs.Interrogations.{up_of}
 use Rattle.frames_rules.specs.declared.answers.Up.{Up}
 use Rattle.frames_rules.specs.declared.answers.Up.TheVariants as up
-use Rattle.model_rules.specs.declared.state.Sent.{Sent}
-use Rattle.model_rules.specs.declared.state.Took.{Took}
+use Rattle.model_rules.specs.Answers.{Took, Went}
 use Rattle.model_rules.specs.declared.state.Transponder.{Transponder}
-use Rattle.model_rules.specs.declared.state.Went.{Went}
 use Rattle.model_rules.specs.Lapse.{lapse}
 use Rattle.model_rules.specs.Replies.{silence, sent_bytes, answer_all_call}
 use Rattle.model_rules.specs.Calls.{interrogated, time_alone, laid_over, selective_comes, all_call_comes, comes, taking}
@@ -51,9 +50,9 @@ module _ (a : Aircraft) (m : (made a).number ≡ 0) (cs : List Call) (time draw 
     when : (told a cs).time ≤ time
     when = rw (agree_always a m cs).clock at (taken_is (after a cs) time draw f n).0
 
-    by_case : (x : Up) → up_of f ≡ x → Left (comes draw lapsed x).transponder → (comes draw lapsed x).sent ≡ sent_on a then cs time draw x
+    by_case : (x : Result Up Refusal) → up_of f ≡ x → Left (comes draw lapsed x).transponder → (comes draw lapsed x).sent ≡ sent_on a then cs time draw x
     unfolding comes selective_comes interrogated all_call_comes
-    by_case (up.Selective uf pc rr di sd ma r) e l =
+    by_case (Ok (up.Selective uf pc rr di sd ma r)) e l =
         let same = (kept_lapse a time (after a cs) (always_kept a m cs)).same.address in
         go (laid_over lapsed.address r) l ∙ ap (λ (n : ℕ). pick (laid_over n r) (sent_bytes (reply_on a then uf rr di sd)) silence) same
       where
@@ -61,14 +60,13 @@ module _ (a : Aircraft) (m : (made a).number ≡ 0) (cs : List Call) (time draw 
             Left w.transponder → w.sent ≡ pick b (sent_bytes (reply_on a then uf rr di sd)) silence
         go true l = told_response a _ l.0 _ l.1 uf rr di sd (always_drawn f uf pc rr di sd ma r e)
         go false l = refl
-    by_case (up.AllCall pr ic cl r) e l = go (laid_over 0xFFFFFF r)
+    by_case (Ok (up.AllCall pr ic cl r)) e l = go (laid_over 0xFFFFFF r)
       where
         go : (b : Bool) → let all : Went = record { transponder = lapsed; sent = answer_all_call pr ic cl draw lapsed } in
             (pick b all (time_alone lapsed)).sent ≡ pick b (call_on a cs time draw pr ic cl) silence
         go true = told_call a m cs time draw pr ic cl when
         go false = refl
-    by_case up.Length e l = refl
-    by_case up.Format e l = refl
+    by_case (Err r) e l = refl
 
     comes_told : sent_by (taking (after a cs) time draw f) ≡ sent_on a then cs time draw (up_of f)
     comes_told = ap sent_by (taken_is (after a cs) time draw f n).1 ∙ by_case (up_of f) refl left

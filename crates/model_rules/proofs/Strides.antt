@@ -5,28 +5,27 @@ use mathlib.Core.Path.{◌≡◌, refl, sym, ap, ◌∙◌, subst}
 use mathlib.Core.Bool.{Bool, true, false, ◌&&◌, false≢true}
 use mathlib.Core.List.{List, [], ◌∷◌, ◌++◌}
 use borrow.Author.Tests.{ltb-false, lt-ltb, le-ltb, leb-false}
+use Rattle.std.specs.Prelude.{Result, Option, Some, None}
 use Rattle.lists.specs.Lists.{pick, All}
 use Rattle.lists.proofs.Checks.{CameTo, was_refused, was_done, whichever, all, end}
 use Rattle.lists.proofs.Held.{all_same}
 use Rattle.lists.proofs.Each.{all_set, all_image}
+use Rattle.refusals.specs.declared.refusal.Refusal.{Refusal}
 use Rattle.frames_rules.specs.Interrogations.{up_of}
 use Rattle.frames_rules.specs.declared.answers.Up.{Up}
-use Rattle.model_rules.specs.declared.state.Lock.{Lock}
-use Rattle.model_rules.specs.declared.state.Lock.TheVariants.{Never, Since}
+use Rattle.frames_rules.specs.declared.answers.Interrogator.{Interrogator}
+use Rattle.model_rules.specs.declared.state.Timers.{Timers}
 use Rattle.model_rules.specs.declared.state.Holder.{Holder}
-use Rattle.model_rules.specs.declared.state.Holder.TheVariants.{Nobody, Held}
-use Rattle.model_rules.specs.declared.state.Made.{Made}
-use Rattle.model_rules.specs.declared.state.Queued.{Queued}
-use Rattle.model_rules.specs.declared.state.Took.{Took}
+use Rattle.model_rules.specs.Answers.{Made, Queued, Took}
 use Rattle.model_rules.specs.declared.state.Transponder.{Transponder}
-use Rattle.model_rules.specs.State.{idle, started, waits}
-use Rattle.model_rules.specs.Lapse.{lasting, is_over, lock_after, timer_after, timers_after, holder_after, lapse}
-use Rattle.model_rules.specs.Lockout.{iis, commanded, lockout}
+use Rattle.model_rules.specs.State.{idle, started, started_by, waits}
+use Rattle.model_rules.specs.Lapse.{lasting, is_over, timer_after, timers_after, holder_after, lapse}
+use Rattle.model_rules.specs.Lockout.{iis, command_of_pc, command_of_sd, commanded, lockout}
 use Rattle.model_rules.specs.CommB.{asks_to_hold, nobody_else, reserve, closes, closeout}
 use Rattle.model_rules.specs.Calls.{newborn, making_checks, not_made, making, queuing_checks, not_queued, queuing}
 use Rattle.model_rules.specs.Calls.{taking_checks, not_taken, is_taken, comes, taking, steps}
 use Rattle.model_rules.specs.History.{Aircraft, made, Call, queue, take, Afterwards, answer, after}
-use Rattle.model_rules.specs.Strides.{Rising, last_of, lapses, LastsAt, LockLastsAt, TimerLastsAt, HolderLastsAt, Current}
+use Rattle.model_rules.specs.Strides.{Rising, last_of, lapses, LastsAt, TimerLastsAt, HolderLastsAt, Current}
 use Rattle.model_rules.specs.Strides.{NotFor, Stride, OneLapse, Strides}
 use Rattle.model_rules.proofs.Timing.{lasts_now}
 use Rattle.model_rules.proofs.Lapsing.{lapse_twice, lapses_rising, lapse_still}
@@ -48,33 +47,36 @@ left_lasting P gone here now later s h k p q = go (is_over later s) refl
     go true e = p
     go false e = let l = leb-false lasting (later - s) e in q (omega (arith, h, k.0), lt-ltb (later - s) 180 l)
 
-lock_lapsed : (now later : ℕ) → now ≤ later → (l : Lock) → LockLastsAt now l → LockLastsAt later (lock_after later l)
-lock_lapsed now later h Never k = tt
-lock_lapsed now later h (Since s) k = left_lasting (LockLastsAt later) Never (Since s) now later s h k tt (λ q. q)
+timer_lapsed : (now later : ℕ) → now ≤ later → (x : Option ℕ) → TimerLastsAt now x → TimerLastsAt later (timer_after later x)
+timer_lapsed now later h None k = tt
+timer_lapsed now later h (Some s) k = left_lasting (TimerLastsAt later) None (Some s) now later s h k tt (λ q. q)
 
-holder_lapsed : (now later : ℕ) → now ≤ later → (x : Holder) → HolderLastsAt now x → HolderLastsAt later (holder_after later x)
-holder_lapsed now later h Nobody k = tt
-holder_lapsed now later h (Held ii s) k = left_lasting (HolderLastsAt later) Nobody (Held ii s) now later s h k tt (λ q. q)
+holder_lapsed : (now later : ℕ) → now ≤ later → (x : Option Holder) → HolderLastsAt now x → HolderLastsAt later (holder_after later x)
+holder_lapsed now later h None k = tt
+holder_lapsed now later h (Some x) k = left_lasting (HolderLastsAt later) None (Some x) now later x.since h k tt (λ q. q)
 
 current_lapse : (t : Transponder) (now : ℕ) → t.time ≤ now → Current t → Current (lapse now t)
-unfolding lapse timers_after timer_after
+unfolding lapse timers_after
 current_lapse t now h k =
     record {
       timers =
           all_image (timer_after now) (TimerLastsAt t.time) (TimerLastsAt now)
-          (λ x p. lock_lapsed t.time now h x.lock p)
+          (timer_lapsed t.time now h)
           t.timers.list
           k.timers;
       holder = holder_lapsed t.time now h t.holder k.holder;
     }
 
+current_started : (c : Option Interrogator) (now : ℕ) (t : Timers) → All (TimerLastsAt now) t.list → All (TimerLastsAt now) (started_by c now t).list
+unfolding started
+current_started None now t k = k
+current_started (Some c) now t k = all_set (TimerLastsAt now) t.list _ _ (begun_now now) k
+
 current_lockout : (pc di sd : ℕ) (t : Transponder) → Current t → Current (lockout pc di sd t)
-unfolding lockout commanded started
+unfolding lockout commanded
 current_lockout pc di sd t k =
     record {
-      timers =
-          all_set (TimerLastsAt t.time) _ _ _ (begun_now t.time)
-          (all_set (TimerLastsAt t.time) t.timers.list _ _ (begun_now t.time) k.timers);
+      timers = current_started (command_of_sd di sd) t.time _ (current_started (command_of_pc pc) t.time t.timers k.timers);
       holder = k.holder;
     }
 
@@ -89,7 +91,7 @@ current_closeout : (pc di sd : ℕ) (t : Transponder) → Current t → Current 
 unfolding closeout
 current_closeout pc di sd t k = of_pick Current (closes pc di sd t.holder) _ t (record { timers = k.timers; holder = tt }) k
 
-current_stepped : (t : Transponder) (x : Up) (u : Transponder) → Stepped t x u → Current t → Current u
+current_stepped : (t : Transponder) (x : Result Up Refusal) (u : Transponder) → Stepped t x u → Current t → Current u
 unfolding steps
 current_stepped t x u (still n e) k = subst Current (sym e) k
 current_stepped t x u (did_steps uf pc rr di sd ma r l e) k =
@@ -126,7 +128,7 @@ always_current a (queue m b ∷ cs) = current_queuing (after a cs) m (always_cur
 always_current a (take time draw f ∷ cs) = current_taking (after a cs) time draw f (always_current a cs)
 
 -- ---- a frame that only moves time leaves what a lapse to the transponder's new time leaves
-only_time : (t : Transponder) (x : Up) (u : Transponder) → NotFor t.address x → Stepped t x u → u ≡ t
+only_time : (t : Transponder) (x : Result Up Refusal) (u : Transponder) → NotFor t.address x → Stepped t x u → u ≡ t
 only_time t x u n (still _ e) = e
 only_time t x u n (did_steps uf pc rr di sd ma r l e) = absurd (false≢true (sym n ∙ l))
 

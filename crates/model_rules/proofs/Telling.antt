@@ -7,16 +7,17 @@ use mathlib.Core.List.{List, [], ◌∷◌, ◌++◌}
 use lib.Dec.{eqb, leb}
 use lib.ListN.{length, drop}
 use borrow.Author.Tests.{eqb-true, ne_eqb, leb-false}
+use Rattle.std.specs.Prelude.{Result, Ok, Err, Option, Some, None}
 use Rattle.lists.specs.Lists.{pick}
 use Rattle.lists.specs.Checks.{checked}
+use Rattle.refusals.specs.declared.refusal.Refusal.{Refusal}
 use Rattle.frames_rules.specs.Bytes.{number_of_bytes}
 use Rattle.frames_rules.specs.Interrogations.{up_of}
 use Rattle.frames_rules.specs.declared.answers.Up.{Up}
 use Rattle.frames_rules.specs.declared.answers.Up.TheVariants as up
 use Rattle.model_rules.specs.declared.state.Holder.{Holder}
-use Rattle.model_rules.specs.declared.state.Holder.TheVariants.{Nobody, Held}
 use Rattle.model_rules.specs.declared.state.Transponder.{Transponder}
-use Rattle.model_rules.specs.State.{waiting, messages_with, messages_after, with_holder, with_messages}
+use Rattle.model_rules.specs.State.{held_since, waiting, messages_with, messages_after, with_holder, with_messages}
 use Rattle.model_rules.specs.Lapse.{holder_after, lapse}
 use Rattle.model_rules.specs.Lockout.{iis, commanded, lockout}
 use Rattle.model_rules.specs.CommB.{asks_to_hold, nobody_else, reserve, closes, closeout}
@@ -37,16 +38,16 @@ use Rattle.model_rules.proofs.Timing.{over_or_lasts, lasts_now}
 
 -- ---- who holds at a time
 -- what has lapsed is what does not last
-lapsed_is : (now : ℕ) (h : Holder) → holder_after now h ≡ holds_at now h
-lapsed_is now Nobody = refl
-lapsed_is now (Held ii s) = ap (λ (b : Bool). pick b Nobody (Held ii s)) (over_or_lasts now s) ∙ go (lasts now s)
+lapsed_is : (now : ℕ) (h : Option Holder) → holder_after now h ≡ holds_at now h
+lapsed_is now None = refl
+lapsed_is now (Some h) = ap (λ (b : Bool). pick b None (Some h)) (over_or_lasts now h.since) ∙ go (lasts now h.since)
   where
-    go : (b : Bool) → pick (not b) Nobody (Held ii s) ≡ pick b (Held ii s) Nobody
+    go : (b : Bool) → pick (not b) None (Some h) ≡ pick b (Some h) None
     go true = refl
     go false = refl
 
 -- who holds later is told by who holds now
-held_later : (now then : ℕ) (h : Holder) → then ≤ now → holds_at now (holds_at then h) ≡ holds_at now h
+held_later : (now then : ℕ) (h : Option Holder) → then ≤ now → holds_at now (holds_at then h) ≡ holds_at now h
 held_later now then h p =
     ap (holds_at now) (sym (lapsed_is then h)) ∙ sym (lapsed_is now (holder_after then h)) ∙ holder_twice then now p h ∙ lapsed_is now h
 
@@ -78,7 +79,7 @@ queue_agrees v t s g =
 pub some_wait : (m : ℕ) (ms : List ℕ) → not (eqb (length (m ∷ ms)) 0) ≡ true
 some_wait m ms = ap not (ne_eqb (length (m ∷ ms)) 0 (λ q. omega arith))
 
-asks_is : (di sd : ℕ) (w : List ℕ) (h : Holder) → HolderIn h
+asks_is : (di sd : ℕ) (w : List ℕ) (h : Option Holder) → HolderIn h
     → asks_to_hold di sd && not (eqb (length w) 0) && nobody_else (iis sd) h ≡ says_mbs 1 di sd && may_reserve (iis sd) w h
 asks_is di sd [] h k = go (says_mbs 1 di sd) (leb 1 (iis sd))
   where
@@ -86,17 +87,17 @@ asks_is di sd [] h k = go (says_mbs 1 di sd) (leb 1 (iis sd))
     go true true = refl
     go true false = refl
     go false y = refl
-asks_is di sd (m ∷ ms) Nobody k = rw (some_wait m ms) (go (says_mbs 1 di sd) (leb 1 (iis sd)))
+asks_is di sd (m ∷ ms) None k = rw (some_wait m ms) (go (says_mbs 1 di sd) (leb 1 (iis sd)))
   where
     go : (x y : Bool) → x && y && true && true ≡ x && y
     go true true = refl
     go true false = refl
     go false y = refl
-asks_is di sd (m ∷ ms) (Held ii s) k = rw (some_wait m ms) (go (says_mbs 1 di sd) (leb 1 (iis sd)) refl (eqb ii (iis sd)) refl)
+asks_is di sd (m ∷ ms) (Some h) k = rw (some_wait m ms) (go (says_mbs 1 di sd) (leb 1 (iis sd)) refl (eqb h.ii (iis sd)) refl)
   where
-    go : (x y : Bool) → leb 1 (iis sd) ≡ y → (z : Bool) → eqb ii (iis sd) ≡ z → x && y && true && z ≡ x && z
+    go : (x y : Bool) → leb 1 (iis sd) ≡ y → (z : Bool) → eqb h.ii (iis sd) ≡ z → x && y && true && z ≡ x && z
     go true true e z f = refl
-    go true false e true f = let q = eqb-true ii (iis sd) f in let r = k.0 in absurd (omega (arith, leb-false, e))
+    go true false e true f = let q = eqb-true h.ii (iis sd) f in let r = k.0 in absurd (omega (arith, leb-false, e))
     go true false e false f = refl
     go false y e z f = refl
 
@@ -104,17 +105,17 @@ reserve_agrees : (di sd : ℕ) (t : Transponder) (s : Told) → HolderIn t.holde
 unfolding reserve reserving
 reserve_agrees di sd t s k g =
     let e = asks_is di sd (waiting t.messages) t.holder k ∙ ap (λ (w : List ℕ). says_mbs 1 di sd && may_reserve (iis sd) w t.holder) g.messages
-    ∙ ap (λ (h : Holder). says_mbs 1 di sd && may_reserve (iis sd) s.messages h) g.holder in
+    ∙ ap (λ (h : Option Holder). says_mbs 1 di sd && may_reserve (iis sd) s.messages h) g.holder in
     rw e (go (says_mbs 1 di sd && may_reserve (iis sd) s.messages (held_by s)))
   where
-    go : (b : Bool) → Agree (pick b (with_holder (Held (iis sd) t.time) t) t) (pick b (reserved_for (iis sd) s) s)
+    go : (b : Bool) → Agree (pick b (with_holder (held_since (iis sd) t.time) t) t) (pick b (reserved_for (iis sd) s) s)
     go true = record { clock = g.clock; messages = g.messages; holder = rw (lasts_now s.time, g.clock) }
     go false = g
 
 -- ---- closeout
-closes_is : (pc di sd : ℕ) (h : Holder) → closes pc di sd h ≡ closes_out pc di sd h
-closes_is pc di sd Nobody = refl
-closes_is pc di sd (Held ii s) = refl
+closes_is : (pc di sd : ℕ) (h : Option Holder) → closes pc di sd h ≡ closes_out pc di sd h
+closes_is pc di sd None = refl
+closes_is pc di sd (Some h) = refl
 
 closeout_agrees : (pc di sd : ℕ) (t : Transponder) (s : Told) → Agree t s → Agree (closeout pc di sd t) (closing pc di sd s)
 unfolding closeout closing
@@ -122,7 +123,7 @@ closeout_agrees pc di sd t s g =
     let e = closes_is pc di sd t.holder ∙ ap (closes_out pc di sd) g.holder in
     rw e (go (closes_out pc di sd (held_by s)))
   where
-    go : (b : Bool) → Agree (pick b (with_messages (messages_after t.messages) (with_holder Nobody t)) t) (pick b (closed s) s)
+    go : (b : Bool) → Agree (pick b (with_messages (messages_after t.messages) (with_holder None t)) t) (pick b (closed s) s)
     go true = record { clock = g.clock; messages = waiting_after t.messages ∙ ap (drop 1) g.messages; holder = refl }
     go false = g
 
@@ -133,13 +134,12 @@ steps_agree pc di sd t s k g =
     (reserve_agrees di sd (lockout pc di sd t) s k (record { clock = g.clock; messages = g.messages; holder = g.holder }))
 
 -- ---- a frame
-told_still : (address : ℕ) (x : Up) (s : Told) → NotFor address x → interrogates address x s ≡ s
-told_still address (up.Selective uf pc rr di sd ma r) s n = rw n
-told_still address (up.AllCall pr ic cl r) s n = refl
-told_still address up.Length s n = refl
-told_still address up.Format s n = refl
+told_still : (address : ℕ) (x : Result Up Refusal) (s : Told) → NotFor address x → interrogates address x s ≡ s
+told_still address (Ok (up.Selective uf pc rr di sd ma r)) s n = rw n
+told_still address (Ok (up.AllCall pr ic cl r)) s n = refl
+told_still address (Err r) s n = refl
 
-stepped_agree : (t : Transponder) (x : Up) (u : Transponder) (s : Told) → Stepped t x u → HolderIn t.holder → Agree t s
+stepped_agree : (t : Transponder) (x : Result Up Refusal) (u : Transponder) (s : Told) → Stepped t x u → HolderIn t.holder → Agree t s
     → Agree u (interrogates t.address x s)
 stepped_agree t x u s (still n e) k g = subst (Agree u) (sym (told_still t.address x s n)) (subst (λ (w : Transponder). Agree w s) (sym e) g)
 stepped_agree t x u s (did_steps uf pc rr di sd ma r l e) k g = rw (l, e) (steps_agree pc di sd t s k g)

@@ -1,7 +1,8 @@
 -- What each call of the model answers: its table of checks in their order, and the transponder afterwards.
-use Rattle.std.specs.Prelude.{ℕ, Bool, not, ◌&&◌, List, [], ◌∷◌, eqb, leb, ltb, length, replicate}
+use Rattle.std.specs.Prelude.{ℕ, Bool, not, ◌&&◌, List, [], ◌∷◌, eqb, leb, ltb, length, replicate, Result, Ok, Err, None}
 use Rattle.lists.specs.Lists.{pick}
 use Rattle.lists.specs.Checks.{Check, check, checked}
+use Rattle.refusals.specs.declared.refusal.Refusal.{Refusal}
 use Rattle.parity_rules.specs.Messages.{seven_or_fourteen}
 use Rattle.parity_rules.specs.Overlays.{overlay_of}
 use Rattle.frames_rules.specs.Building.{is_address}
@@ -9,13 +10,8 @@ use Rattle.frames_rules.specs.Bytes.{number_of_bytes}
 use Rattle.frames_rules.specs.Interrogations.{up_of}
 use Rattle.frames_rules.specs.declared.answers.Up.{Up}
 use Rattle.frames_rules.specs.declared.answers.Up.TheVariants as up
-use Rattle.model_rules.specs.declared.state.Holder.TheVariants.{Nobody}
 use Rattle.model_rules.specs.declared.state.Transponder.{Transponder}
-use Rattle.model_rules.specs.declared.state.Made.{Made}
-use Rattle.model_rules.specs.declared.state.Queued.{Queued}
-use Rattle.model_rules.specs.declared.state.Sent.{Sent}
-use Rattle.model_rules.specs.declared.state.Went.{Went}
-use Rattle.model_rules.specs.declared.state.Took.{Took}
+use Rattle.model_rules.specs.Answers.{Made, Queued, Took, Sent, Went}
 use Rattle.model_rules.specs.State.{idle, waiting, messages_with, with_messages}
 use Rattle.model_rules.specs.Lapse.{lapse}
 use Rattle.model_rules.specs.Lockout.{lockout}
@@ -34,7 +30,7 @@ newborn address ac id fs ca =
       ca = ca;
       time = 0;
       timers = record { list = replicate 79 idle };
-      holder = Nobody;
+      holder = None;
       messages = record { list = replicate 8 0; n = 0 };
     }
 
@@ -106,11 +102,10 @@ all_call_comes pr ic cl remainder draw t =
     pick (laid_over 0xFFFFFF remainder) (went t (answer_all_call pr ic cl draw t)) (time_alone t)
 
 -- a frame comes, by what it is; of another format, or not of its format's length, it only moves time
-unfoldable pub comes : ℕ → Transponder → Up → Went
-comes draw t (up.Selective uf pc rr di sd ma remainder) = selective_comes uf pc rr di sd remainder t
-comes draw t (up.AllCall pr ic cl remainder) = all_call_comes pr ic cl remainder draw t
-comes draw t up.Length = time_alone t
-comes draw t up.Format = time_alone t
+unfoldable pub comes : ℕ → Transponder → Result Up Refusal → Went
+comes draw t (Ok (up.Selective uf pc rr di sd ma remainder)) = selective_comes uf pc rr di sd remainder t
+comes draw t (Ok (up.AllCall pr ic cl remainder)) = all_call_comes pr ic cl remainder draw t
+comes draw t (Err r) = time_alone t
 
 -- with such a last time, 1: bytes "neither 7 nor 14"; 2: a draw that is not "0 to 15"; 15: "model time before its last time"
 unfoldable pub taking_checks : ℕ → ℕ → ℕ → List ℕ → List Check

@@ -1,8 +1,7 @@
 -- What is shown of every history of a transponder, each as one record: what its theorem in proofs/ shows.
 use Rattle.std.specs.Prelude.{ℕ, ◌≤◌, ◌≡◌, List, ◌∷◌}
 use Rattle.frames_rules.specs.declared.answers.Interrogator.{Interrogator}
-use Rattle.model_rules.specs.declared.state.Sent.{Sent}
-use Rattle.model_rules.specs.declared.state.Took.{Took}
+use Rattle.model_rules.specs.Answers.{Took, Sent}
 use Rattle.model_rules.specs.State.{waiting}
 use Rattle.model_rules.specs.Lapse.{lapse}
 use Rattle.model_rules.specs.Lockout.{locked_to}

@@ -2,9 +2,7 @@
 use Rattle.std.specs.Prelude.{ℕ, List, [], ◌∷◌}
 use Rattle.parity_rules.specs.Messages.{AreBytes}
 use Rattle.lists.specs.Checks.{Check}
-use Rattle.model_rules.specs.declared.state.Made.{Made}
-use Rattle.model_rules.specs.declared.state.Queued.{Queued}
-use Rattle.model_rules.specs.declared.state.Took.{Took}
+use Rattle.model_rules.specs.Answers.{Made, Queued, Took}
 use Rattle.model_rules.specs.declared.state.Transponder.{Transponder}
 use Rattle.model_rules.specs.Calls.{making, queuing, taking}
 

@@ -1,8 +1,7 @@
 -- What every history of calls keeps true of a transponder.
-use Rattle.std.specs.Prelude.{ℕ, ◌≤◌, ◌<◌, ◌^◌, ◌≡◌, Bool, true, length}
+use Rattle.std.specs.Prelude.{ℕ, ◌≤◌, ◌<◌, ◌^◌, ◌≡◌, Bool, true, length, Option, Some, None}
 use Rattle.lists.specs.Lists.{All}
 use Rattle.model_rules.specs.declared.state.Holder.{Holder}
-use Rattle.model_rules.specs.declared.state.Holder.TheVariants.{Nobody, Held}
 use Rattle.model_rules.specs.declared.state.Messages.{Messages}
 use Rattle.model_rules.specs.declared.state.Transponder.{Transponder}
 use Rattle.model_rules.specs.State.{waiting, waits}
@@ -10,17 +9,17 @@ use Rattle.model_rules.specs.Calls.{make_ranged}
 use Rattle.model_rules.specs.History.{Aircraft}
 
 -- while somebody holds, a message waits
-abbrev pub held_waits : Holder → Messages → Bool
-held_waits Nobody m = true
-held_waits (Held ii s) m = waits m
+abbrev pub held_waits : Option Holder → Messages → Bool
+held_waits None m = true
+held_waits (Some h) m = waits m
 
 abbrev pub HeldWaits : Transponder → Type 0
 HeldWaits t = held_waits t.holder t.messages ≡ true
 
 -- "IIS 1-15"
-abbrev pub HolderIn : Holder → Type 0
-HolderIn Nobody = Unit {0}
-HolderIn (Held ii s) = (1 ≤ ii) × (ii ≤ 15)
+abbrev pub HolderIn : Option Holder → Type 0
+HolderIn None = Unit {0}
+HolderIn (Some h) = (1 ≤ h.ii) × (h.ii ≤ 15)
 
 -- MB has 56 bits
 abbrev pub Of56Bits : ℕ → Type 0

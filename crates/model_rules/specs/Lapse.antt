@@ -1,13 +1,9 @@
 -- Time lapses: "each .. locks while less than 180 tenths have passed since its command", and a reservation "lasts as long as a lock".
 -- What has lapsed leaves no trace.
-use Rattle.std.specs.Prelude.{ℕ, ◌-◌, Bool, map, leb}
+use Rattle.std.specs.Prelude.{ℕ, ◌-◌, Bool, map, leb, Option, Some, None}
 use Rattle.lists.specs.Lists.{pick}
-use Rattle.model_rules.specs.declared.state.Lock.{Lock}
-use Rattle.model_rules.specs.declared.state.Lock.TheVariants.{Never, Since}
-use Rattle.model_rules.specs.declared.state.Timer.{Timer}
 use Rattle.model_rules.specs.declared.state.Timers.{Timers}
 use Rattle.model_rules.specs.declared.state.Holder.{Holder}
-use Rattle.model_rules.specs.declared.state.Holder.TheVariants.{Nobody, Held}
 use Rattle.model_rules.specs.declared.state.Transponder.{Transponder}
 use Rattle.model_rules.specs.State.{with_time, with_timers, with_holder}
 
@@ -19,19 +15,16 @@ lasting = 180
 abbrev pub is_over : ℕ → ℕ → Bool
 is_over now since = leb lasting (now - since)
 
-abbrev pub lock_after : ℕ → Lock → Lock
-lock_after now Never = Never
-lock_after now (Since s) = pick (is_over now s) Never (Since s)
-
-unfoldable pub timer_after : ℕ → Timer → Timer
-timer_after now t = record { lock = lock_after now t.lock }
+abbrev pub timer_after : ℕ → Option ℕ → Option ℕ
+timer_after now None = None
+timer_after now (Some s) = pick (is_over now s) None (Some s)
 
 unfoldable pub timers_after : ℕ → Timers → Timers
 timers_after now t = record { list = map (timer_after now) t.list }
 
-abbrev pub holder_after : ℕ → Holder → Holder
-holder_after now Nobody = Nobody
-holder_after now (Held ii s) = pick (is_over now s) Nobody (Held ii s)
+abbrev pub holder_after : ℕ → Option Holder → Option Holder
+holder_after now None = None
+holder_after now (Some h) = pick (is_over now h.since) None (Some h)
 
 -- the transponder at a time: the one that only time has changed
 unfoldable pub lapse : ℕ → Transponder → Transponder

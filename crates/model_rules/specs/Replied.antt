@@ -1,15 +1,15 @@
 -- What the calls alone tell of replies: to which frame the aircraft sends which bytes, and to which none.
 -- Nothing here knows the transponder.
-use Rattle.std.specs.Prelude.{ℕ, ◌+◌, Bool, false, ◌&&◌, ◌||◌, not, List, ◌∷◌, eqb, leb, ltb}
+use Rattle.std.specs.Prelude.{ℕ, ◌+◌, Bool, false, ◌&&◌, ◌||◌, not, List, ◌∷◌, eqb, leb, ltb, Option, Some, None, Result, Ok, Err}
 use Rattle.lists.specs.Lists.{pick}
+use Rattle.refusals.specs.declared.refusal.Refusal.{Refusal}
 use Rattle.frames_rules.specs.Building.{a_reply, an_all_call_reply}
 use Rattle.frames_rules.specs.Interrogations.{up_of}
 use Rattle.frames_rules.specs.declared.answers.Up.{Up}
 use Rattle.frames_rules.specs.declared.answers.Up.TheVariants as up
 use Rattle.frames_rules.specs.Shared.{code_for, short_reply}
 use Rattle.frames_rules.specs.declared.answers.Interrogator.{Interrogator}
-use Rattle.frames_rules.specs.declared.answers.Interrogator.TheVariants.{II, SI, Nobody}
-use Rattle.model_rules.specs.declared.state.Sent.{Sent}
+use Rattle.model_rules.specs.Answers.{Sent}
 use Rattle.model_rules.specs.Replies.{silence, sent_bytes, draws_below}
 use Rattle.model_rules.specs.Calls.{laid_over}
 use Rattle.model_rules.specs.History.{Aircraft, Call, take}
@@ -36,10 +36,9 @@ abbrev pub answers_at : Aircraft → List Call → ℕ → ℕ → ℕ → Inter
 answers_at a cs time draw pr c = (leb 8 pr || not (locked_since time (last_command a c cs))) && ltb draw (draws_below pr)
 
 -- "SI 0 and CL 5 to 7 get no reply"
-abbrev pub answers_to : Aircraft → List Call → ℕ → ℕ → ℕ → Interrogator → Bool
-answers_to a cs time draw pr Nobody = false
-answers_to a cs time draw pr (II n) = answers_at a cs time draw pr (II n)
-answers_to a cs time draw pr (SI n) = answers_at a cs time draw pr (SI n)
+abbrev pub answers_to : Aircraft → List Call → ℕ → ℕ → ℕ → Option Interrogator → Bool
+answers_to a cs time draw pr None = false
+answers_to a cs time draw pr (Some c) = answers_at a cs time draw pr c
 
 -- the answer to PR, IC and CL
 abbrev pub call_on : Aircraft → List Call → ℕ → ℕ → ℕ → ℕ → ℕ → Sent
@@ -47,11 +46,10 @@ call_on a cs time draw pr ic cl = pick (answers_to a cs time draw pr (code_for c
 
 -- ---- every frame, after a history
 -- by what it is: a selective interrogation for this aircraft, an all-call for every aircraft, or neither; first the story after it
-abbrev pub sent_on : Aircraft → Told → List Call → ℕ → ℕ → Up → Sent
-sent_on a s cs time draw (up.Selective uf pc rr di sd ma remainder) = pick (laid_over a.address remainder) (sent_bytes (reply_on a s uf rr di sd)) silence
-sent_on a s cs time draw (up.AllCall pr ic cl remainder) = pick (laid_over 0xFFFFFF remainder) (call_on a cs time draw pr ic cl) silence
-sent_on a s cs time draw up.Length = silence
-sent_on a s cs time draw up.Format = silence
+abbrev pub sent_on : Aircraft → Told → List Call → ℕ → ℕ → Result Up Refusal → Sent
+sent_on a s cs time draw (Ok (up.Selective uf pc rr di sd ma remainder)) = pick (laid_over a.address remainder) (sent_bytes (reply_on a s uf rr di sd)) silence
+sent_on a s cs time draw (Ok (up.AllCall pr ic cl remainder)) = pick (laid_over 0xFFFFFF remainder) (call_on a cs time draw pr ic cl) silence
+sent_on a s cs time draw (Err r) = silence
 
 -- a frame that is refused, for another address, of another format or of the wrong length gets nothing
 unfoldable pub sent_to : Aircraft → List Call → ℕ → ℕ → List ℕ → Sent

@@ -1,5 +1,5 @@
 -- Replies: what a transponder sends, to a selective interrogation and to an all-call.
-use Rattle.std.specs.Prelude.{ℕ, ◌+◌, ◌-◌, ◌*◌, ◌/◌, ◌^◌, Bool, false, ◌&&◌, ◌||◌, not, List, eqb, leb, ltb, length, replicate}
+use Rattle.std.specs.Prelude.{ℕ, ◌+◌, ◌-◌, ◌*◌, ◌/◌, ◌^◌, Bool, false, ◌&&◌, ◌||◌, not, List, eqb, leb, ltb, length, replicate, Option, Some, None}
 use Rattle.lists.specs.Lists.{pick, over}
 use Rattle.frames_rules.specs.Fields.{bits_to, value_at}
 use Rattle.frames_rules.specs.Answers.{Building}
@@ -8,13 +8,9 @@ use Rattle.frames_rules.specs.Shared.{code_for}
 use Rattle.frames_rules.specs.Formats.{length_of}
 use Rattle.frames_rules.specs.Shared.{drawn}
 use Rattle.frames_rules.specs.declared.answers.Interrogator.{Interrogator}
-use Rattle.frames_rules.specs.declared.answers.Interrogator.TheVariants as code
-use Rattle.frames_rules.specs.declared.answers.Draws.{Draws}
-use Rattle.frames_rules.specs.declared.answers.Draws.TheVariants.{Format, Nothing}
 use Rattle.model_rules.specs.declared.state.Holder.{Holder}
-use Rattle.model_rules.specs.declared.state.Holder.TheVariants.{Nobody, Held}
 use Rattle.model_rules.specs.declared.state.Messages.{Messages}
-use Rattle.model_rules.specs.declared.state.Sent.{Sent}
+use Rattle.model_rules.specs.Answers.{Sent}
 use Rattle.model_rules.specs.declared.state.Transponder.{Transponder}
 use Rattle.model_rules.specs.State.{waits, first_of}
 use Rattle.model_rules.specs.Lockout.{locked_to}
@@ -46,9 +42,9 @@ abbrev pub hides_um : ℕ → ℕ → Bool
 hides_um di sd = eqb di 1 && leb 2 (rss sd)
 
 -- "UM is 4×holder+1 while held, zero otherwise or when RSS is 2 or 3"
-abbrev pub um_of : ℕ → ℕ → Holder → ℕ
-um_of di sd Nobody = 0
-um_of di sd (Held h s) = pick (hides_um di sd) 0 (4 * h + 1)
+abbrev pub um_of : ℕ → ℕ → Option Holder → ℕ
+um_of di sd None = 0
+um_of di sd (Some h) = pick (hides_um di sd) 0 (4 * h.ii + 1)
 
 -- "BDS2 is RRS, bits 21-24 for DI 7, 24-27 for DI 3, else zero"
 abbrev pub bds2 : ℕ → ℕ → ℕ
@@ -63,9 +59,9 @@ abbrev pub value_of : ℕ → Transponder → ℕ
 value_of uf t = pick (eqb uf 4 || eqb uf 20) t.ac t.id
 
 -- ---- the reply to a selective interrogation
-abbrev pub sending_format : ℕ → ℕ → ℕ → ℕ → Transponder → Draws → Sent
-sending_format uf rr di sd t Nothing = silence
-sending_format uf rr di sd t (Format df) =
+abbrev pub sending_format : ℕ → ℕ → ℕ → ℕ → Transponder → Option ℕ → Sent
+sending_format uf rr di sd t None = silence
+sending_format uf rr di sd t (Some df) =
     sending
     (replying df t.fs (dr_of t.messages) (um_of di sd t.holder) (value_of uf t) (mb_of rr di sd t.messages) t.address (replicate (length_of df) 0))
 
@@ -85,10 +81,9 @@ abbrev pub answers_free : ℕ → ℕ → Interrogator → Transponder → Bool
 answers_free pr draw c t = free pr c t && ltb draw (draws_below pr)
 
 -- "SI 0 and CL 5 to 7 get no reply"
-abbrev pub answers_code : ℕ → ℕ → Transponder → Interrogator → Bool
-answers_code pr draw t code.Nobody = false
-answers_code pr draw t (code.II n) = answers_free pr draw (code.II n) t
-answers_code pr draw t (code.SI n) = answers_free pr draw (code.SI n) t
+abbrev pub answers_code : ℕ → ℕ → Transponder → Option Interrogator → Bool
+answers_code pr draw t None = false
+answers_code pr draw t (Some c) = answers_free pr draw c t
 
 unfoldable pub answers : ℕ → ℕ → ℕ → ℕ → Transponder → Bool
 answers pr ic cl draw t = answers_code pr draw t (code_for cl ic)

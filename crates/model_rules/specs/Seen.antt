@@ -1,16 +1,15 @@
 -- What a caller has seen of a history, and from that alone the number of each call, the story of Comm-B and when a code was last commanded.
 -- Nothing here knows the transponder.
-use Rattle.std.specs.Prelude.{ℕ, ◌≤◌, Bool, false, ◌&&◌, ◌||◌, List, [], ◌∷◌, eqb}
+use Rattle.std.specs.Prelude.{ℕ, ◌≤◌, Bool, false, ◌&&◌, ◌||◌, List, [], ◌∷◌, eqb, Option, Some, None, Result, Ok, Err}
 use Rattle.lists.specs.Lists.{pick}
 use Rattle.lists.specs.Checks.{given}
+use Rattle.refusals.specs.declared.refusal.Refusal.{Refusal}
 use Rattle.frames_rules.specs.Bytes.{number_of_bytes}
 use Rattle.frames_rules.specs.Interrogations.{up_of}
 use Rattle.frames_rules.specs.declared.answers.Up.{Up}
 use Rattle.frames_rules.specs.declared.answers.Up.TheVariants as up
 use Rattle.frames_rules.specs.declared.answers.Interrogator.{Interrogator}
-use Rattle.frames_rules.specs.declared.answers.Interrogator.TheVariants.{II, SI, Nobody}
-use Rattle.model_rules.specs.declared.state.Lock.{Lock}
-use Rattle.model_rules.specs.declared.state.Lock.TheVariants.{Never, Since}
+use Rattle.frames_rules.specs.declared.answers.Interrogator.TheVariants.{II, SI}
 use Rattle.model_rules.specs.Lockout.{command_of_pc, command_of_sd}
 use Rattle.model_rules.specs.Calls.{laid_over}
 use Rattle.model_rules.specs.History.{Aircraft, Call, queue, take}
@@ -19,11 +18,10 @@ use Rattle.model_rules.specs.Numbers.{checks}
 
 -- ---- the story of a history
 -- a selective interrogation for this address reserves and closes out, in this order, and nothing else does
-abbrev pub interrogates : ℕ → Up → Told → Told
-interrogates address (up.Selective uf pc rr di sd ma remainder) s = pick (laid_over address remainder) (closing pc di sd (reserving di sd s)) s
-interrogates address (up.AllCall pr ic cl remainder) s = s
-interrogates address up.Length s = s
-interrogates address up.Format s = s
+abbrev pub interrogates : ℕ → Result Up Refusal → Told → Told
+interrogates address (Ok (up.Selective uf pc rr di sd ma remainder)) s = pick (laid_over address remainder) (closing pc di sd (reserving di sd s)) s
+interrogates address (Ok (up.AllCall pr ic cl remainder)) s = s
+interrogates address (Err r) s = s
 
 -- after one call more that is not refused: a message waits; a frame moves time, and may interrogate
 abbrev pub told_by : Aircraft → Call → Told → Told
@@ -50,41 +48,36 @@ told a (c ∷ cs) =
 abbrev pub ACode : Interrogator → Type 0
 ACode (II n) = n ≤ 15
 ACode (SI n) = (1 ≤ n) × (n ≤ 63)
-ACode Nobody = ⊥
 
--- whether two codes are the same
-abbrev pub is_code : Interrogator → Interrogator → Bool
-is_code (II n) (II m) = eqb n m
-is_code (II n) (SI m) = false
-is_code (II n) Nobody = false
-is_code (SI n) (II m) = false
-is_code (SI n) (SI m) = eqb n m
-is_code (SI n) Nobody = false
-is_code Nobody (II m) = false
-is_code Nobody (SI m) = false
-is_code Nobody Nobody = false
+-- whether a code is the same as one that may be nobody's
+abbrev pub is_code : Interrogator → Option Interrogator → Bool
+is_code (II n) (Some (II m)) = eqb n m
+is_code (II n) (Some (SI m)) = false
+is_code (II n) None = false
+is_code (SI n) (Some (II m)) = false
+is_code (SI n) (Some (SI m)) = eqb n m
+is_code (SI n) None = false
 
 -- whether PC, or DI and SD, command a code
 abbrev pub commands_in : Interrogator → ℕ → ℕ → ℕ → Bool
 commands_in c pc di sd = is_code c (command_of_pc pc) || is_code c (command_of_sd di sd)
 
 -- whether a frame is a selective interrogation for this address that commands a code
-abbrev pub commands : ℕ → Interrogator → Up → Bool
-commands address c (up.Selective uf pc rr di sd ma remainder) = laid_over address remainder && commands_in c pc di sd
-commands address c (up.AllCall pr ic cl remainder) = false
-commands address c up.Length = false
-commands address c up.Format = false
+abbrev pub commands : ℕ → Interrogator → Result Up Refusal → Bool
+commands address c (Ok (up.Selective uf pc rr di sd ma remainder)) = laid_over address remainder && commands_in c pc di sd
+commands address c (Ok (up.AllCall pr ic cl remainder)) = false
+commands address c (Err r) = false
 
 -- the time of the last command of a code, after one call more with its number: a frame that is not refused may be one
-abbrev pub command_after : Aircraft → Interrogator → Call → ℕ → Lock → Lock
+abbrev pub command_after : Aircraft → Interrogator → Call → ℕ → Option ℕ → Option ℕ
 command_after a c (queue m b) number old = old
-command_after a c (take time draw f) number old = pick (eqb number 0 && commands a.address c (up_of f)) (Since time) old
+command_after a c (take time draw f) number old = pick (eqb number 0 && commands a.address c (up_of f)) (Some time) old
 
-unfoldable pub last_command : Aircraft → Interrogator → List Call → Lock
-last_command a c [] = Never
+unfoldable pub last_command : Aircraft → Interrogator → List Call → Option ℕ
+last_command a c [] = None
 last_command a c (x ∷ cs) = command_after a c x (number_on (told a cs) x) (last_command a c cs)
 
 -- "locks while less than 180 tenths have passed since its command"
-abbrev pub locked_since : ℕ → Lock → Bool
-locked_since now Never = false
-locked_since now (Since s) = lasts now s
+abbrev pub locked_since : ℕ → Option ℕ → Bool
+locked_since now None = false
+locked_since now (Some s) = lasts now s

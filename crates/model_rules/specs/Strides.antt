@@ -1,14 +1,11 @@
 -- Strides of the clock: lapses one after the other, frames that only move time, and what is shown of them: "two short waits are one long one".
-use Rattle.std.specs.Prelude.{ℕ, ◌≤◌, ◌≡◌, true, false, List, [], ◌∷◌, ◌++◌}
+use Rattle.std.specs.Prelude.{ℕ, ◌≤◌, ◌≡◌, true, false, List, [], ◌∷◌, ◌++◌, Result, Ok, Err, Option, Some, None}
 use Rattle.lists.specs.Lists.{All}
+use Rattle.refusals.specs.declared.refusal.Refusal.{Refusal}
 use Rattle.frames_rules.specs.Interrogations.{up_of}
 use Rattle.frames_rules.specs.declared.answers.Up.{Up}
 use Rattle.frames_rules.specs.declared.answers.Up.TheVariants as up
-use Rattle.model_rules.specs.declared.state.Lock.{Lock}
-use Rattle.model_rules.specs.declared.state.Lock.TheVariants.{Never, Since}
-use Rattle.model_rules.specs.declared.state.Timer.{Timer}
 use Rattle.model_rules.specs.declared.state.Holder.{Holder}
-use Rattle.model_rules.specs.declared.state.Holder.TheVariants.{Nobody, Held}
 use Rattle.model_rules.specs.declared.state.Transponder.{Transponder}
 use Rattle.model_rules.specs.Lapse.{lapse}
 use Rattle.model_rules.specs.Calls.{laid_over, taking}
@@ -37,16 +34,13 @@ lapses (now ∷ later) t = lapses later (lapse now t)
 abbrev pub LastsAt : ℕ → ℕ → Type 0
 LastsAt now since = (since ≤ now) × (lasts now since ≡ true)
 
-abbrev pub LockLastsAt : ℕ → Lock → Type 0
-LockLastsAt now Never = Unit {0}
-LockLastsAt now (Since s) = LastsAt now s
+abbrev pub TimerLastsAt : ℕ → Option ℕ → Type 0
+TimerLastsAt now None = Unit {0}
+TimerLastsAt now (Some s) = LastsAt now s
 
-abbrev pub TimerLastsAt : ℕ → Timer → Type 0
-TimerLastsAt now x = LockLastsAt now x.lock
-
-abbrev pub HolderLastsAt : ℕ → Holder → Type 0
-HolderLastsAt now Nobody = Unit {0}
-HolderLastsAt now (Held ii s) = LastsAt now s
+abbrev pub HolderLastsAt : ℕ → Option Holder → Type 0
+HolderLastsAt now None = Unit {0}
+HolderLastsAt now (Some h) = LastsAt now h.since
 
 -- every lock and the reservation last at the transponder's own time
 pub record Current (t : Transponder) : Type 0 where
@@ -55,11 +49,10 @@ pub record Current (t : Transponder) : Type 0 where
 
 -- ---- frames that only move time
 -- what came is no selective interrogation for an address
-abbrev pub NotFor : ℕ → Up → Type 0
-NotFor address (up.Selective uf pc rr di sd ma r) = laid_over address r ≡ false
-NotFor address (up.AllCall pr ic cl r) = Unit {0}
-NotFor address up.Length = Unit {0}
-NotFor address up.Format = Unit {0}
+abbrev pub NotFor : ℕ → Result Up Refusal → Type 0
+NotFor address (Ok (up.Selective uf pc rr di sd ma r)) = laid_over address r ≡ false
+NotFor address (Ok (up.AllCall pr ic cl r)) = Unit {0}
+NotFor address (Err r) = Unit {0}
 
 -- the call is a frame for another address, an all-call, or one of another format or of the wrong length
 abbrev pub Stride : ℕ → Call → Type 0

@@ -4,6 +4,4 @@
 
 mod state;
 
-pub use state::{
-    Holder, Lock, Made, Messages, Queued, Sent, Timer, Timers, Took, Transponder, Went,
-};
+pub use state::{Holder, Messages, Sent, Timers, Transponder};

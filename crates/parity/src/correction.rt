@@ -10,7 +10,7 @@ use crate::division::remainder_of;
 use crate::lengths::sized;
 use crate::marks::gather;
 use crate::search::{choose_byte, count};
-use parity_rules::Fix;
+use refusals::Refusal;
 
 // Writes the message with the one matching subset flipped, and the subset as a mark buffer, and says how many places it has.
 fn rebuild(
@@ -31,8 +31,7 @@ fn rebuild(
     let mut k = many;
     let mut left = want;
     let mut flips: u32 = 0;
-    let mut j: usize = 0;
-    while j < msg.len() {
+    for j in 0..msg.len() {
         let p = choose_byte(marks, j, syns, k, left);
         let mask = p.mask as u8;
         out[j] = msg[j] ^ mask;
@@ -40,7 +39,6 @@ fn rebuild(
         k = p.k;
         left = p.want;
         flips += p.taken;
-        j += 1;
     }
     flips
 }
@@ -54,7 +52,7 @@ fn settle(
     want: u32,
     out: &mut [u8],
     places: &mut [u8],
-) -> Fix
+) -> Result<u32, Refusal>
     requires { (length marks.now ≡ length msg.now) × (length out.old ≡ length msg.now) × (length places.old ≡ length msg.now)
         × (length msg.now ≤ 14) × (many ≤ 12) × (back many syns.now ≡ syndromes_of (bits marks.now)) }
     ensures { fix_said result (buffers out.new places.new)
@@ -63,12 +61,12 @@ fn settle(
 {
     let found = count(syns, many, want);
     if found == 0 {
-        return Fix::NoMatch;
+        return Err(Refusal::NoMatch);
     }
     if found != 1 {
-        return Fix::Doubt;
+        return Err(Refusal::Doubt);
     }
-    Fix::Flips(rebuild(msg, marks, syns, many, want, out, places))
+    Ok(rebuild(msg, marks, syns, many, want, out, places))
 }
 
 // Flips the one subset of the marked bits that makes the remainder the overlay, and tells its places as a mark buffer.
@@ -79,24 +77,21 @@ pub fn correct(
     limit: u32,
     out: &mut [u8],
     places: &mut [u8],
-) -> Fix
+) -> Result<u32, Refusal>
     ensures { fix_said result (buffers out.new places.new)
         ≡ correction msg.now marks.now overlay limit (buffers out.old places.old) }
 {
     if !sized(msg.len(), marks.len(), out.len(), places.len()) {
-        return Fix::Length;
+        return Err(Refusal::Length);
     }
-    if 0x100_0000 <= overlay {
-        return Fix::Range;
-    }
-    if 12 < limit {
-        return Fix::Range;
+    if 0x100_0000 <= overlay || 12 < limit {
+        return Err(Refusal::Range);
     }
     let most = limit as usize;
     let mut syns = [0u32; 12];
     let many = gather(marks, &mut syns);
     if most < many {
-        return Fix::Marks;
+        return Err(Refusal::Marks);
     }
     let want = remainder_of(msg) ^ overlay;
     settle(msg, marks, &syns, many, want, out, places)

@@ -6,7 +6,7 @@ ghost use Rattle.parity_rules.specs.Division.{divide, remainder_of, remainder_an
 ghost use Rattle.parity_rules.specs.Steps.{moved_up};
 
 use crate::lengths::seven_or_fourteen;
-use parity_rules::Reckoned;
+use refusals::Refusal;
 
 // The byte h times x^24, reduced, with no table: x^24 leaves FFF409, and x^25 and the six powers after it 1C1B moved up.
 fn moved_up(h: u32) -> u32
@@ -31,20 +31,18 @@ pub(crate) fn remainder_of(msg: &[u8]) -> u32
     ensures { result ≡ remainder_of (bits msg.now) }
 {
     let mut r: u32 = 0;
-    let mut i: usize = 0;
-    while i < msg.len() {
-        r = byte_in(r, msg[i]);
-        i += 1;
+    for &b in msg {
+        r = byte_in(r, b);
     }
     r
 }
 
 // The remainder of a message; Length unless it has 7 or 14 bytes.
-pub fn remainder(msg: &[u8]) -> Reckoned
+pub fn remainder(msg: &[u8]) -> Result<u32, Refusal>
     ensures { reckoned_said result ≡ remainder_answer msg.now }
 {
     if !seven_or_fourteen(msg.len()) {
-        return Reckoned::Length;
+        return Err(Refusal::Length);
     }
-    Reckoned::Is(remainder_of(msg))
+    Ok(remainder_of(msg))
 }

@@ -14,4 +14,4 @@ pub use division::remainder;
 pub use lengths::{seven_or_fourteen, sized};
 pub use marks::bit_at;
 pub use overlay::{code_overlay, uplink_overlay};
-pub use parity_rules::{Fix, Reckoned};
+pub use refusals::Refusal;

@@ -48,10 +48,8 @@ pub(crate) fn gather(marks: &[u8], syns: &mut [u32; 12]) -> usize
 {
     let n = marks.len() * 8;
     let mut many: usize = 0;
-    let mut k: usize = 0;
-    while k < n {
+    for k in 0..n {
         many = noted(syns, many, bit(marks, n - 1 - k), k);
-        k += 1;
     }
     many
 }

@@ -3,16 +3,14 @@ ghost use Rattle.std.specs.Prelude.{◌≡◌};
 ghost use Rattle.parity_rules.specs.Answers.{reckoned_said};
 ghost use Rattle.parity_rules.specs.Overlays.{overlay_of, uplink_overlay, code_overlay};
 
-use parity_rules::Reckoned;
+use refusals::Refusal;
 
 // The high half of the generator times the 24 low bits of a number.
 fn overlay_of(address: u32) -> u32
     ensures { result ≡ overlay_of address }
 {
     let mut p: u64 = 0;
-    let mut i: u32 = 24;
-    while 0 < i {
-        i -= 1;
+    for i in (0..24u32).rev() {
         let b = ((address >> i) % 2) as u64;
         p = (p * 2) ^ (b * 0x1FF_F409);
     }
@@ -20,24 +18,21 @@ fn overlay_of(address: u32) -> u32
 }
 
 // The uplink overlay of an address; Range above 24 bits. FFFFFF is in: the all-call is laid over it.
-pub fn uplink_overlay(address: u32) -> Reckoned
+pub fn uplink_overlay(address: u32) -> Result<u32, Refusal>
     ensures { reckoned_said result ≡ uplink_overlay address }
 {
     if 0x100_0000 <= address {
-        return Reckoned::Range;
+        return Err(Refusal::Range);
     }
-    Reckoned::Is(overlay_of(address))
+    Ok(overlay_of(address))
 }
 
 // The downlink overlay of DF 11, 16×CL + IC; Range for CL above 7 or IC above 15.
-pub fn code_overlay(cl: u32, ic: u32) -> Reckoned
+pub fn code_overlay(cl: u32, ic: u32) -> Result<u32, Refusal>
     ensures { reckoned_said result ≡ code_overlay cl ic }
 {
-    if 7 < cl {
-        return Reckoned::Range;
+    if 7 < cl || 15 < ic {
+        return Err(Refusal::Range);
     }
-    if 15 < ic {
-        return Reckoned::Range;
-    }
-    Reckoned::Is(16 * cl + ic)
+    Ok(16 * cl + ic)
 }

@@ -84,8 +84,7 @@ pub(crate) fn choose_byte(marks: &[u8], j: usize, syns: &[u32; 12], k: usize, wa
         k,
         want,
     };
-    let mut t: usize = 0;
-    while t < 8 {
+    for t in 0..8 {
         let c = choose(marks, j * 8 + t, syns, p.k, p.want);
         p = Part {
             mask: p.mask * 2 + c.taken,
@@ -93,7 +92,6 @@ pub(crate) fn choose_byte(marks: &[u8], j: usize, syns: &[u32; 12], k: usize, wa
             k: c.k,
             want: c.want,
         };
-        t += 1;
     }
     p
 }

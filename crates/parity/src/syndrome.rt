@@ -10,14 +10,10 @@ pub(crate) fn syndrome_of(k: usize) -> u32
     requires { k < 112 }
     ensures { result ≡ syndrome k }
 {
-    let mut at = k;
-    if 24 <= k {
-        at = 16 + k % 8;
-    }
-    let mut r: u32 = 1 << (at as u32);
-    while at < k {
+    let at = if k < 24 { k } else { 16 + k % 8 };
+    let mut r: u32 = 1 << at;
+    for _ in 2..k / 8 {
         r = byte_in(r, 0);
-        at += 8;
     }
     r
 }

@@ -75,7 +75,8 @@ module _ (ms syns : List ℕ) (i k want : ℕ) (s : List ℕ) (h : i < length ms
     counted : (w : ℕ) → length (matching w (drop (i + 1) ms)) ≡ ways w (back (k - 1) syns)
     counted w = count_law w (drop (i + 1) ms) ∙ ap (ways w) (sym (marked z).4)
 
-    pub mark_take : ways (bit_xor want (get_or syns (k - 1) 0)) (back (k - 1) syns) ≡ 1 → Chosen ms syns i want s 1 (k - 1) (bit_xor want (get_or syns (k - 1) 0))
+    pub mark_take : ways (bit_xor want (get_or syns (k - 1) 0)) (back (k - 1) syns) ≡ 1
+        → Chosen ms syns i want s 1 (k - 1) (bit_xor want (get_or syns (k - 1) 0))
     mark_take e =
         let j = (join_one (matching (bit_xor want (get_or syns (k - 1) 0)) (drop (i + 1) ms)) (matching want (drop (i + 1) ms)) s split).0 (counted _ ∙ e) in
         record { small = omega arith; head = j.0; left = record { few = omega (arith, l.few); only = j.1; rest = (marked z).4 } }

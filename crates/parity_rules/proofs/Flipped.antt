@@ -52,7 +52,8 @@ digit : (b v k : ℕ) → bit_xor b v / 2 ^ k % 2 ≡ bit_xor (b / 2 ^ k % 2) (v
 digit b v k = ap (λ (n : ℕ). n % 2) (xor_shr b v k) ∙ xor_mod (b / 2 ^ k) (v / 2 ^ k) 1
 
 byte_xor : (b x0 x1 x2 x3 x4 x5 x6 x7 : ℕ) → x0 < 2 → x1 < 2 → x2 < 2 → x3 < 2 → x4 < 2 → x5 < 2 → x6 < 2 → x7 < 2 → (r : List ℕ)
-    → byte_then (bit_xor b (spelled 0 (x0 ∷ x1 ∷ x2 ∷ x3 ∷ x4 ∷ x5 ∷ x6 ∷ x7 ∷ []))) r ≡ bit_xor (b / 128 % 2) x0 ∷ bit_xor (b / 64 % 2) x1 ∷ bit_xor (b / 32 % 2)
+    → byte_then (bit_xor b (spelled 0 (x0 ∷ x1 ∷ x2 ∷ x3 ∷ x4 ∷ x5 ∷ x6 ∷ x7 ∷ []))) r
+    ≡ bit_xor (b / 128 % 2) x0 ∷ bit_xor (b / 64 % 2) x1 ∷ bit_xor (b / 32 % 2)
     x2 ∷ bit_xor (b / 16 % 2) x3 ∷ bit_xor (b / 8 % 2) x4 ∷ bit_xor (b / 4 % 2) x5 ∷ bit_xor (b / 2 % 2) x6 ∷ bit_xor (b % 2) x7 ∷ r
 byte_xor b x0 x1 x2 x3 x4 x5 x6 x7 h0 h1 h2 h3 h4 h5 h6 h7 r =
     let v : ℕ = spelled 0 (x0 ∷ x1 ∷ x2 ∷ x3 ∷ x4 ∷ x5 ∷ x6 ∷ x7 ∷ []) in

@@ -126,7 +126,8 @@ subsets_many (suc zero ∷ ms) h =
 subsets_many (suc (suc m) ∷ ms) h = absurd (omega (arith, h.0))
 
 -- as many match as pass a test that says the same
-pub match_count : (want : ℕ) (ms : List ℕ) (q : List ℕ → Bool) → ((s : List ℕ) → eqb (xor_of s) want ≡ q s) → length (matching want ms) ≡ count_of q (subsets ms)
+pub match_count : (want : ℕ) (ms : List ℕ) (q : List ℕ → Bool) → ((s : List ℕ) → eqb (xor_of s) want ≡ q s)
+    → length (matching want ms) ≡ count_of q (subsets ms)
 unfolding matching
 match_count want ms q h = filter_length (λ s. eqb (xor_of s) want) q h (subsets ms)
 

@@ -7,11 +7,11 @@ use native.Mathlib.Omega.{arith}
 use lib.Bits.{bit_xor, xor_zero_r}
 use lib.ListN.{length}
 use borrow.Author.Tests.{le-leb}
+use Rattle.std.specs.Prelude.{Result, Ok}
 use Rattle.lists.specs.Answers.{refused_by}
 use Rattle.lists.proofs.Tests.{and_yes}
 use Rattle.lists.proofs.Checks.{all, end, not_off}
-use Rattle.parity_rules.specs.declared.answers.Reckoned.{Reckoned}
-use Rattle.parity_rules.specs.declared.answers.Reckoned.TheVariants.{Is}
+use Rattle.refusals.specs.declared.refusal.Refusal.{Refusal}
 use Rattle.parity_rules.specs.Messages.{bits, byte_then, seven_or_fourteen, xor_bits}
 use Rattle.parity_rules.specs.Answers.{reckoned_said}
 use Rattle.parity_rules.specs.Division.{shift_in, divide, remainder_of, remainder_answer, syndrome, syndrome_of_bit}
@@ -84,15 +84,15 @@ unfolding overlay_of
 overlay_lt address = let h : times 0 (low_bits 24 address) < 2 ^ 48 = product_lt 24 address 0 (omega arith) (omega arith) in omega arith
 
 -- ---- what a call that was not refused says: its answer is the number itself
-module _ (r : Reckoned) where
-  pub remainder_is : (msg : List ℕ) → seven_or_fourteen (length msg) ≡ true → reckoned_said r ≡ remainder_answer msg → r ≡ Is (remainder_of (bits msg))
+module _ (r : Result ℕ Refusal) where
+  pub remainder_is : (msg : List ℕ) → seven_or_fourteen (length msg) ≡ true → reckoned_said r ≡ remainder_answer msg → r ≡ Ok (remainder_of (bits msg))
   unfolding remainder_answer
-  remainder_is msg h e = reckoned_one r (Is (remainder_of (bits msg))) (e ∙ sym (end refused_by _ all (not_off _ h, tt)))
+  remainder_is msg h e = reckoned_one r (Ok (remainder_of (bits msg))) (e ∙ sym (end refused_by _ all (not_off _ h, tt)))
 
-  pub uplink_is : (address : ℕ) → address < 16777216 → reckoned_said r ≡ uplink_overlay address → r ≡ Is (overlay_of address)
-  uplink_is address h e = reckoned_one r (Is (overlay_of address)) (e ∙ is_given address h)
+  pub uplink_is : (address : ℕ) → address < 16777216 → reckoned_said r ≡ uplink_overlay address → r ≡ Ok (overlay_of address)
+  uplink_is address h e = reckoned_one r (Ok (overlay_of address)) (e ∙ is_given address h)
 
-  pub code_is : (cl ic : ℕ) → cl ≤ 7 → ic ≤ 15 → reckoned_said r ≡ code_overlay cl ic → r ≡ Is (16 * cl + ic)
+  pub code_is : (cl ic : ℕ) → cl ≤ 7 → ic ≤ 15 → reckoned_said r ≡ code_overlay cl ic → r ≡ Ok (16 * cl + ic)
   unfolding code_overlay
   code_is cl ic hc hi e =
-      reckoned_one r (Is (16 * cl + ic)) (e ∙ sym (end refused_by _ all (not_off _ (and_yes _ _ (le-leb cl 7 hc) (le-leb ic 15 hi)), tt)))
+      reckoned_one r (Ok (16 * cl + ic)) (e ∙ sym (end refused_by _ all (not_off _ (and_yes _ _ (le-leb cl 7 hc) (le-leb ic 15 hi)), tt)))

@@ -10,11 +10,12 @@ use lib.Bits.{bit_xor}
 use lib.Dec.{ltb}
 use lib.ListN.{length}
 use borrow.Author.Tests.{not-false, ne_eqb, ltb-true, ltb-false, le-ltb}
+use Rattle.std.specs.Prelude.{Ok, Err}
 use Rattle.lists.specs.Checks.{Check, check, checked, given}
 use Rattle.lists.specs.Lists.{All}
 use Rattle.lists.proofs.Checks.{view, Passed, CameTo, was_refused, was_done, came_to, gave, whichever, all, past, rest, stop, not_off}
 use Rattle.lists.proofs.Xor.{xor_back}
-use Rattle.parity_rules.specs.declared.answers.Fix.TheVariants.{Flips, NoMatch, Doubt}
+use Rattle.refusals.specs.declared.refusal.Refusal.TheVariants.{NoMatch, Doubt}
 use Rattle.parity_rules.specs.Messages.{bits, xor_bits, differing, AreBits, AreBytes}
 use Rattle.parity_rules.specs.Answers.{Buffers, buffers, Correction, fix_said, not_corrected}
 use Rattle.parity_rules.specs.Division.{remainder_of}
@@ -63,11 +64,11 @@ module _ (msg marks : List ℕ) (overlay limit : ℕ) (lent : Buffers) where
   lengths : not (sized (length msg) (length marks) (length lent.output) (length lent.places)) ≡ false → length marks ≡ length msg
   lengths h = (sizes (length msg) (length marks) (length lent.output) (length lent.places) (not-false _ h)).marks
 
-  taken : (n : ℕ) (b : Buffers) → fix_said (Flips n) b ≡ correction msg marks overlay limit lent → Match msg marks overlay n b
+  taken : (n : ℕ) (b : Buffers) → fix_said (Ok n) b ≡ correction msg marks overlay limit lent → Match msg marks overlay n b
   unfolding correction_checks
   taken n b e = go (checked cs (not_corrected lent) found) (e ∙ is_checked) (came_to (not_corrected lent) found cs refl)
     where
-      go : (x : Correction) → fix_said (Flips n) b ≡ x → CameTo cs (not_corrected lent) found x → Match msg marks overlay n b
+      go : (x : Correction) → fix_said (Ok n) b ≡ x → CameTo cs (not_corrected lent) found x → Match msg marks overlay n b
       go x e (was_refused c m k g q) = absurd (m (sym (ap (λ (y : Correction). y.number) (e ∙ q))))
       go x e (was_done p g q) =
           record {
@@ -83,7 +84,7 @@ module _ (msg marks : List ℕ) (overlay limit : ℕ) (lent : Buffers) where
   number_is = ap (λ (x : Correction). x.number) is_checked ∙ view (λ (x : Correction). x.number) cs (not_corrected lent) found
 
   -- 12 and 13 are given where the lengths are right, by how many match
-  none_found : (b : Buffers) → fix_said NoMatch b ≡ correction msg marks overlay limit lent
+  none_found : (b : Buffers) → fix_said (Err NoMatch) b ≡ correction msg marks overlay limit lent
       → (length marks ≡ length msg) × (matches_of msg marks overlay ≡ [])
   unfolding correction_checks
   none_found b e =
@@ -160,7 +161,7 @@ two_refused msg lent l h =
 -- ---- the theorems, each from what `correct` promises of the answer
 module _ (msg marks : List ℕ) (overlay limit : ℕ) (lent b : Buffers) (bm : AreBytes msg) where
   -- a correction that is taken
-  pub corrected : (n : ℕ) → fix_said (Flips n) b ≡ correction msg marks overlay limit lent → Corrected msg marks overlay n b
+  pub corrected : (n : ℕ) → fix_said (Ok n) b ≡ correction msg marks overlay limit lent → Corrected msg marks overlay n b
   corrected n e =
       let m = taken msg marks overlay limit lent n b e in
       let s = m.subset in
@@ -179,14 +180,14 @@ module _ (msg marks : List ℕ) (overlay limit : ℕ) (lent b : Buffers) (bm : A
       })
 
   -- refusal 12: no message fits
-  pub no_message : fix_said NoMatch b ≡ correction msg marks overlay limit lent → (o : List ℕ) → Fitting msg marks overlay o → ⊥
+  pub no_message : fix_said (Err NoMatch) b ≡ correction msg marks overlay limit lent → (o : List ℕ) → Fitting msg marks overlay o → ⊥
   no_message e o f =
       let d = none_found msg marks overlay limit lent b e in
       match_none (sought msg overlay) (bits marks) (differing msg o) (bits_are marks) d.1
       f.at_marks (matched msg marks overlay d.0 bm o f)
 
   -- refusal 13: two messages fit
-  pub two_messages : fix_said Doubt b ≡ correction msg marks overlay limit lent
+  pub two_messages : fix_said (Err Doubt) b ≡ correction msg marks overlay limit lent
       → (o : List ℕ) × (p : List ℕ) × Fitting msg marks overlay o × Fitting msg marks overlay p × (o ≡ p → ⊥)
   two_messages e =
       let d = in_doubt msg marks overlay limit lent (sym (ap (λ (x : Correction). x.number) e)) in
@@ -214,7 +215,7 @@ module _ (msg marks : List ℕ) (overlay limit : ℕ) (lent b : Buffers) (bm : A
 -- two corrections of one message, with the same marks and overlay, that are taken: by whatever limits and into whatever buffers, they leave the same
 -- output and the same places
 pub same_places : (msg marks : List ℕ) (overlay limit limit' : ℕ) (lent lent' b b' : Buffers) (n n' : ℕ)
-    → fix_said (Flips n) b ≡ correction msg marks overlay limit lent → fix_said (Flips n') b' ≡ correction msg marks overlay limit' lent' → b ≡ b'
+    → fix_said (Ok n) b ≡ correction msg marks overlay limit lent → fix_said (Ok n') b' ≡ correction msg marks overlay limit' lent' → b ≡ b'
 same_places msg marks overlay limit limit' lent lent' b b' n n' e e' =
     let m = taken msg marks overlay limit lent n b e in
     let m' = taken msg marks overlay limit' lent' n' b' e' in

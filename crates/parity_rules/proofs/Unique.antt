@@ -1,43 +1,32 @@
 -- What an answer says is unique: answers that say the same are the same answer.
-use mathlib.Core.Path.{◌≡◌, refl, sym, ap, ◌∙◌}
-use lib.Dec.{eqb}
+use mathlib.Core.Path.{◌≡◌, sym, ap}
 use lib.ListN.{get_or}
-use Rattle.lists.specs.Lists.{pick}
+use Prim.Native.Nat.{ℕ}
+use Rattle.std.specs.Prelude.{Result, Ok, Err}
+use borrow.Author.Tests.{eqb-false}
 use Rattle.lists.specs.Answers.{Answer}
-use Rattle.parity_rules.specs.declared.answers.Reckoned.{Reckoned}
-use Rattle.parity_rules.specs.declared.answers.Reckoned.TheVariants as reckoned
-use Rattle.parity_rules.specs.declared.answers.Fix.{Fix}
-use Rattle.parity_rules.specs.declared.answers.Fix.TheVariants as fix
+use Rattle.refusals.specs.declared.refusal.Refusal.{Refusal}
+use Rattle.refusals.specs.Refusals.{number_of}
+use Rattle.refusals.proofs.Numbers.{not_done, same_number}
 use Rattle.parity_rules.specs.Answers.{Buffers, Correction, reckoned_said, fix_said}
 
--- the case that a number and a value tell
-reckoned_by : Answer → Reckoned
-reckoned_by a = pick (eqb a.number 0) (reckoned.Is (get_or a.values 0 0)) (pick (eqb a.number 1) reckoned.Length reckoned.Range)
-
-reckoned_back : (r : Reckoned) → reckoned_by (reckoned_said r) ≡ r
-unfolding reckoned_by
-reckoned_back (reckoned.Is v) = refl
-reckoned_back reckoned.Length = refl
-reckoned_back reckoned.Range = refl
+-- a value and a refusal do not say the same number
+pub apart : (r : Refusal) → 0 ≡ number_of r → ⊥
+apart r e = eqb-false (number_of r) 0 (not_done r) (sym e)
 
 -- two reckoned answers with the same number and value are the same answer
-pub reckoned_one : (a b : Reckoned) → reckoned_said a ≡ reckoned_said b → a ≡ b
-reckoned_one a b e = sym (reckoned_back a) ∙ ap reckoned_by e ∙ reckoned_back b
+pub reckoned_one : (a b : Result ℕ Refusal) → reckoned_said a ≡ reckoned_said b → a ≡ b
+reckoned_one (Ok v) (Ok w) e = ap (λ (x : Answer). Ok (get_or x.values 0 0)) e
+reckoned_one (Ok v) (Err s) e = absurd (apart s (ap (λ (x : Answer). x.number) e))
+reckoned_one (Err r) (Ok w) e = absurd (apart r (sym (ap (λ (x : Answer). x.number) e)))
+reckoned_one (Err r) (Err s) e = ap (λ (x : Refusal). Err x) (same_number r s (ap (λ (x : Answer). x.number) e))
 
-fix_by : Correction → Fix
-fix_by o =
-    pick (eqb o.number 0) (fix.Flips o.flips) (pick (eqb o.number 1) fix.Length (pick (eqb o.number 2) fix.Range
-    (pick (eqb o.number 11) fix.Marks (pick (eqb o.number 12) fix.NoMatch fix.Doubt))))
-
-fix_back : (f : Fix) (o : Buffers) → fix_by (fix_said f o) ≡ f
-unfolding fix_by
-fix_back (fix.Flips n) o = refl
-fix_back fix.Length o = refl
-fix_back fix.Range o = refl
-fix_back fix.Marks o = refl
-fix_back fix.NoMatch o = refl
-fix_back fix.Doubt o = refl
+fix_same : (a b : Result ℕ Refusal) (o p : Buffers) → fix_said a o ≡ fix_said b p → a ≡ b
+fix_same (Ok n) (Ok m) o p e = ap (λ (x : Correction). Ok x.flips) e
+fix_same (Ok n) (Err s) o p e = absurd (apart s (ap (λ (x : Correction). x.number) e))
+fix_same (Err r) (Ok m) o p e = absurd (apart r (sym (ap (λ (x : Correction). x.number) e)))
+fix_same (Err r) (Err s) o p e = ap (λ (x : Refusal). Err x) (same_number r s (ap (λ (x : Correction). x.number) e))
 
 -- two corrections with the same number, flips and buffers are the same answer with the same buffers: the same output, and the same places
-pub fix_one : (a b : Fix) (o p : Buffers) → fix_said a o ≡ fix_said b p → (a ≡ b) × (o ≡ p)
-fix_one a b o p e = (sym (fix_back a o) ∙ ap fix_by e ∙ fix_back b p, ap (λ (x : Correction). x.buffers) e)
+pub fix_one : (a b : Result ℕ Refusal) (o p : Buffers) → fix_said a o ≡ fix_said b p → (a ≡ b) × (o ≡ p)
+fix_one a b o p e = (fix_same a b o p e, ap (λ (x : Correction). x.buffers) e)

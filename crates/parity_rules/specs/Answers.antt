@@ -1,18 +1,16 @@
 -- Numbers given back: what each case of an answer says in document 01's terms.
-use Rattle.std.specs.Prelude.{ℕ, List, [], ◌∷◌}
+use Rattle.std.specs.Prelude.{ℕ, List, [], ◌∷◌, Result, Ok, Err}
+use Rattle.std.specs.Result.{result_unwrap_or}
 use Rattle.lists.specs.Checks.{Check}
 use Rattle.lists.specs.Answers.{Answer, done, refusal}
-use Rattle.parity_rules.specs.declared.answers.Reckoned.{Reckoned}
-use Rattle.parity_rules.specs.declared.answers.Reckoned.TheVariants as reckoned
-use Rattle.parity_rules.specs.declared.answers.Fix.{Fix}
-use Rattle.parity_rules.specs.declared.answers.Fix.TheVariants as fix
+use Rattle.refusals.specs.declared.refusal.Refusal.{Refusal}
+use Rattle.refusals.specs.Refusals.{number_of, number_given}
 
 -- ---- a call that reckons a number
--- each case's number, and the value beside it
-abbrev pub reckoned_said : Reckoned → Answer
-reckoned_said (reckoned.Is v) = done (v ∷ [])
-reckoned_said reckoned.Length = refusal 1
-reckoned_said reckoned.Range = refusal 2
+-- 0 and the value beside it, or the refusal's number
+abbrev pub reckoned_said : Result ℕ Refusal → Answer
+reckoned_said (Ok v) = done (v ∷ [])
+reckoned_said (Err r) = refusal (number_of r)
 
 -- ---- a correction
 -- the two buffers that a correction is lent: for the corrected message, and for the flipped places
@@ -29,26 +27,16 @@ pub record Correction : Type 0 where
   pub flips : ℕ
   pub buffers : Buffers
 
--- each case's number
-abbrev pub fix_number : Fix → ℕ
-fix_number (fix.Flips n) = 0
-fix_number fix.Length = 1
-fix_number fix.Range = 2
-fix_number fix.Marks = 11
-fix_number fix.NoMatch = 12
-fix_number fix.Doubt = 13
+-- the number of a fix: 0, where exactly one subset matches, or the refusal's
+abbrev pub fix_number : Result ℕ Refusal → ℕ
+fix_number f = number_given f
 
--- each case's flips
-abbrev pub flips_of : Fix → ℕ
-flips_of (fix.Flips n) = n
-flips_of fix.Length = 0
-flips_of fix.Range = 0
-flips_of fix.Marks = 0
-flips_of fix.NoMatch = 0
-flips_of fix.Doubt = 0
+-- its flips: where exactly one subset matches, how many bits of the message are flipped in the output and marked in the places
+abbrev pub flips_of : Result ℕ Refusal → ℕ
+flips_of f = result_unwrap_or f 0
 
 -- what an answer and the buffers after the call say
-abbrev pub fix_said : Fix → Buffers → Correction
+abbrev pub fix_said : Result ℕ Refusal → Buffers → Correction
 fix_said f b = record { number = fix_number f; flips = flips_of f; buffers = b }
 
 -- "a refusal returns its number alone and changes nothing"

@@ -115,7 +115,8 @@ listing =
 
 -- the one claim
 pub corrections_agree : Agrees listing
-unfolding filter checked bits shift_in divide remainder_of syndrome size_of subsets xor_of matching flipped correction low_bits times overlay_of remainder_answer
+unfolding filter checked bits shift_in divide remainder_of syndrome size_of subsets xor_of matching flipped correction low_bits times overlay_of
+    remainder_answer
     uplink_overlay code_overlay places_from
 corrections_agree =
     refl also refl also refl also refl also refl also refl also refl also refl also refl also refl also

@@ -27,11 +27,9 @@ fn put_all(out: &mut [u8], at: usize, marks: &[u8]) -> usize
     ensures { Put (numbers_behind (places_in marks.now)) at out.old out.new result }
 {
     let n = marks.len() * 8;
-    let mut end = text::put_bytes(out, at, b"");
-    let mut i: usize = 0;
-    while i < n {
+    let mut end = at.min(out.len());
+    for i in 0..n {
         end = put_place(out, end, bit_at(marks, i), i as u32 + 1);
-        i += 1;
     }
     end
 }

@@ -1,4 +1,5 @@
 -- A pass and the plan, as the loops make them over the slots.
+use Rattle.std.specs.Prelude.{Option, Some, None}
 use Prim.Native.Nat.{ℕ, ◌+◌, ◌≤◌, ◌<◌, zero-le, min}
 use native.Mathlib.Omega.{arith}
 use native.Mathlib.Numerals.{add-one}
@@ -13,8 +14,6 @@ use Rattle.lists.proofs.Over.{over_none, over_self, over_push, over_over, over_r
 use Rattle.planner_rules.specs.declared.request.Ask.{Ask}
 use Rattle.planner_rules.specs.declared.entry.Entry.{Entry}
 use Rattle.planner_rules.specs.declared.setup.Setup.{Setup}
-use Rattle.planner_rules.specs.declared.plan.Place.{Place}
-use Rattle.planner_rules.specs.declared.plan.Place.TheVariants.{At, Nowhere}
 use Rattle.planner_rules.specs.declared.plan.Planned.{Planned}
 use Rattle.planner_rules.specs.Exchange.{entry_at}
 use Rattle.planner_rules.specs.Fits.{place}
@@ -26,22 +25,22 @@ use Rattle.planner.proofs.Rows.{shown_none}
 use Rattle.planner.proofs.Tallies.{tallied_none, tallied_more, tallied_small, at_limit, below_limit}
 
 -- a request that was tried is placed behind the others, or waits behind the others
-settled : Place → Ask → Board → Board
-settled (At t) a x = record { placed = x.placed ++ (entry_at a t ∷ []); waiting = x.waiting }
-settled Nowhere a x = record { placed = x.placed; waiting = x.waiting ++ (a ∷ []) }
+settled : Option ℕ → Ask → Board → Board
+settled (Some t) a x = record { placed = x.placed ++ (entry_at a t ∷ []); waiting = x.waiting }
+settled None a x = record { placed = x.placed; waiting = x.waiting ++ (a ∷ []) }
 
 -- the same in the slots
-abbrev pub settled_in : Place → Ask → Planned → Planned
-settled_in (At t) a p = record { placed = p.placed + 1; entries = set p.entries p.placed (entry_at a t); waiting = p.waiting; asks = p.asks }
-settled_in Nowhere a p = record { placed = p.placed; entries = p.entries; waiting = p.waiting + 1; asks = set p.asks p.waiting a }
+abbrev pub settled_in : Option ℕ → Ask → Planned → Planned
+settled_in (Some t) a p = record { placed = p.placed + 1; entries = set p.entries p.placed (entry_at a t); waiting = p.waiting; asks = p.asks }
+settled_in None a p = record { placed = p.placed; entries = p.entries; waiting = p.waiting + 1; asks = set p.asks p.waiting a }
 
-settled_more : (s : Place) (a : Ask) (p : Planned) → (settled_in s a p).placed + (settled_in s a p).waiting ≡ p.placed + p.waiting + 1
-settled_more (At t) a p = omega arith
-settled_more Nowhere a p = omega arith
+settled_more : (s : Option ℕ) (a : Ask) (p : Planned) → (settled_in s a p).placed + (settled_in s a p).waiting ≡ p.placed + p.waiting + 1
+settled_more (Some t) a p = omega arith
+settled_more None a p = omega arith
 
-settled_grown : (s : Place) (a : Ask) (p : Planned) (n : ℕ) → n ≤ p.placed → n ≤ (settled_in s a p).placed
-settled_grown (At t) a p n h = omega arith
-settled_grown Nowhere a p n h = h
+settled_grown : (s : Option ℕ) (a : Ask) (p : Planned) (n : ℕ) → n ≤ p.placed → n ≤ (settled_in s a p).placed
+settled_grown (Some t) a p n h = omega arith
+settled_grown None a p n h = h
 
 -- what waits already, before what a pass leaves
 abbrev glue : List Ask → Board → Board
@@ -51,11 +50,11 @@ snoc_count : {A : Type 0} (v : List A) (x : A) → length v + 1 ≡ length (v ++
 snoc_count v x = simp length-append (omega arith)
 
 -- the slots of a board, with one request more
-settled_slots : (s : Place) (a : Ask) (x : Board) (old : List Entry) (base : List Ask) → length x.placed < length old → length x.waiting < length base
+settled_slots : (s : Option ℕ) (a : Ask) (x : Board) (old : List Entry) (base : List Ask) → length x.placed < length old → length x.waiting < length base
     → settled_in s a (in_slots x old base) ≡ in_slots (settled s a x) old base
 unfolding settled
-settled_slots (At t) a x old base h k = rw (over_push x.placed old (entry_at a t) (length x.placed) refl h, snoc_count x.placed (entry_at a t))
-settled_slots Nowhere a x old base h k = rw (over_push x.waiting base a (length x.waiting) refl k, snoc_count x.waiting a)
+settled_slots (Some t) a x old base h k = rw (over_push x.placed old (entry_at a t) (length x.placed) refl h, snoc_count x.placed (entry_at a t))
+settled_slots None a x old base h k = rw (over_push x.waiting base a (length x.waiting) refl k, snoc_count x.waiting a)
 
 module _ (L : ℕ) (limits : List ℕ) where
   -- a pass over what is left from the board x
@@ -66,14 +65,14 @@ module _ (L : ℕ) (limits : List ℕ) where
   unfolding pass settled
   rest_step x a w = go (tried L (share limits a.request.unit) x.placed a)
     where
-      go : (s : Place)
+      go : (s : Option ℕ)
           → glue x.waiting (elim s as (λ _. Board) [
-            | At t ↦ pass L limits (x.placed ++ (entry_at a t ∷ [])) w
-            | Nowhere ↦ stays a (pass L limits x.placed w)
+            | Some t ↦ pass L limits (x.placed ++ (entry_at a t ∷ [])) w
+            | None ↦ stays a (pass L limits x.placed w)
           ])
           ≡ rest (settled s a x) w
-      go (At t) = refl
-      go Nowhere =
+      go (Some t) = refl
+      go None =
           ap (λ (l : List Ask). record { placed = (pass L limits x.placed w).placed; waiting = l })
           (sym (append_snoc x.waiting a (pass L limits x.placed w).waiting))
 
@@ -132,7 +131,7 @@ module _ (L : ℕ) (limits : List ℕ) where
             let m : p.waiting ≡ length h.board.waiting = ap (λ (q : Planned). q.waiting) h.slots in
             sym (ap (λ (q : Planned). get_or q.asks i d) h.slots ∙ over_read h.board.waiting b.asks i d (omega (arith, h.sum, h.grown)))
 
-        step : (s : Place) (counts' : List ℕ) → s ≡ tried L (share limits a.request.unit) h.board.placed a
+        step : (s : Option ℕ) (counts' : List ℕ) → s ≡ tried L (share limits a.request.unit) h.board.placed a
             → Tallied counts' (settled s a h.board).placed
             → Passing b (i + 1) counts' (settled_in s a p)
         step s counts' e c =
@@ -157,28 +156,28 @@ module _ (L : ℕ) (limits : List ℕ) where
                   h.is
                   ∙ ap (λ (v : List Ask). rest h.board v) next
                   ∙ rest_step h.board a w
-                  ∙ ap (λ (q : Place). rest (settled q a h.board) w) (sym e);
+                  ∙ ap (λ (q : Option ℕ). rest (settled q a h.board) w) (sym e);
             }
 
         -- the unit is at its limit; or it is below, and the request is placed, or stays
         module _ (k n : ℕ) (eight : length limits ≡ 8) (q : k ≡ share limits a.request.unit) (c : n ≡ share counts a.request.unit) where
-          pub pass_limit : k ≤ n → Passing b (i + 1) counts (settled_in Nowhere a p)
+          pub pass_limit : k ≤ n → Passing b (i + 1) counts (settled_in None a p)
           unfolding settled
-          pass_limit f = step Nowhere counts (at_limit L limits counts h.board.placed a eight h.tallied (omega arith)) h.tallied
+          pass_limit f = step None counts (at_limit L limits counts h.board.placed a eight h.tallied (omega arith)) h.tallied
 
-          pub pass_stay : n < k → Nowhere ≡ place L (placed_in p) a → Passing b (i + 1) counts (settled_in Nowhere a p)
+          pub pass_stay : n < k → None ≡ place L (placed_in p) a → Passing b (i + 1) counts (settled_in None a p)
           unfolding settled
           pass_stay f e =
-              step Nowhere counts
+              step None counts
               (e ∙ ap (λ (v : List Entry). place L v a) here ∙ below_limit L limits counts h.board.placed a eight h.tallied (omega arith)) h.tallied
 
           pub pass_at : n < k → (t : ℕ) (x : Entry) (counts' : List ℕ) → x ≡ entry_at a t
-              → counts' ≡ set counts a.request.unit (share counts a.request.unit + 1) → At t ≡ place L (placed_in p) a
+              → counts' ≡ set counts a.request.unit (share counts a.request.unit + 1) → Some t ≡ place L (placed_in p) a
               → Passing b (i + 1) counts' (record { placed = p.placed + 1; entries = set p.entries p.placed x; waiting = p.waiting; asks = p.asks })
           unfolding settled
           pass_at f t x counts' y z e =
               rw (y, z)
-              (step (At t) (set counts a.request.unit (share counts a.request.unit + 1))
+              (step (Some t) (set counts a.request.unit (share counts a.request.unit + 1))
               (e ∙ ap (λ (v : List Entry). place L v a) here ∙ below_limit L limits counts h.board.placed a eight h.tallied (omega arith))
               (tallied_more counts h.board.placed (entry_at a t) h.tallied))
 

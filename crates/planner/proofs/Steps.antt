@@ -1,7 +1,7 @@
 -- How the steps of the search for a place fit together.
+use Rattle.std.specs.Prelude.{Some, None}
 use Prim.Native.Nat.{ℕ, ◌+◌, ◌≤◌, ◌<◌}
 use native.Mathlib.Omega.{arith}
-use native.Mathlib.Nat.{le_antisymm}
 use mathlib.Core.Path.{◌≡◌, refl, sym, subst, ap, fun_ext, ◌∙◌}
 use mathlib.Core.Logic.{⊎_elim}
 use mathlib.Core.Bool.{Bool, true, false, not, ◌&&◌, ◌||◌}
@@ -14,12 +14,11 @@ use Rattle.lists.proofs.Front.{front_take}
 use Rattle.planner_rules.specs.declared.request.Ask.{Ask}
 use Rattle.planner_rules.specs.declared.entry.Entry.{Entry}
 use Rattle.planner.specs.declared.exchange.Exchange.{Exchange}
-use Rattle.planner_rules.specs.declared.plan.Place.TheVariants.{At, Nowhere}
 use Rattle.planner_rules.specs.Exchange.{Span, exchange_of, entry_at, transmits, listens, spans, apart, clear}
 use Rattle.planner_rules.specs.Fits.{clear_of, fits, place}
 use Rattle.planner.specs.Promises.{held, Past, Step}
 use Rattle.planner_rules.proofs.Smallest.{le_or_lt, late, place_at, place_none}
-use Rattle.planner_rules.proofs.Clear.{or_right, clear_swap, clear_late, clear_of_none, clear_of_snoc, unclear_part}
+use Rattle.planner_rules.proofs.Clear.{or_right, clear_swap, clear_late, clear_of_none, clear_of_snoc}
 
 -- one interval of an exchange against one of another
 past_step : (p : ℕ → Span) (q : Span) (a b lo hi t r : ℕ) → ((j : ℕ) → (p j).lo ≡ j + a) → ((j : ℕ) → (p j).hi ≡ j + b) → q.lo ≡ lo → q.hi ≡ hi
@@ -118,53 +117,43 @@ module _ (a : Ask) (e : Entry) (t : ℕ) (p : Exchange) (at sent from end : ℕ)
   request_over small h =
       stay_put (λ (j : ℕ). clear (entry_at a j) e) t small (clear_swap (entry_at a t) e ∙ clear_late e (entry_at a t) (omega (arith, p_to, at-is)))
 
--- rounds over the first n entries: no start below from fits, and since from the first i entries were passed
-module _ (L : ℕ) (a : Ask) (n : ℕ) (es : List Entry) where
+-- a round over the first entries, one after the other
+module _ (a : Ask) (es : List Entry) where
   abbrev clear_at : ℕ → ℕ → Bool
   clear_at i j = clear_of (entry_at a j) (take i es)
 
-  pub record Rounds (from t i : ℕ) : Type 0 where
-    pub within : i ≤ n
-    pub below : (j : ℕ) → j < from → fits L (take n es) (entry_at a j) ≡ false
-    pub round : Step (clear_at i) from t
+  pub round_first : (t : ℕ) → t ≤ 200000 → Step (clear_at 0) t t
+  round_first t small = stay_put (clear_at 0) t small (clear_of_none (entry_at a t))
 
-  -- none up to t fits then
-  none_yet : (from t i : ℕ) → Rounds from t i → (j : ℕ) → j < t → fits L (take n es) (entry_at a j) ≡ false
-  unfolding fits
-  none_yet from t i h j l =
-      ⊎_elim
-      (λ k. and_no_right (leb (spans (entry_at a j)).hi L) _ (unclear_part (entry_at a j) es i n h.within (h.round.none j k l)))
-      (λ k. h.below j k)
-      (le_or_lt from j)
-
-  pub round_new : (from t i : ℕ) → t ≤ 200000 → Rounds from t i → Rounds t t 0
-  round_new from t i small h =
-      record { within = omega arith; below = none_yet from t i h; round = stay_put (clear_at 0) t small (clear_of_none (entry_at a t)) }
-
-  pub round_first : Rounds 0 0 0
-  round_first = record { within = omega arith; below = λ j l. absurd (omega arith); round = stay_put (clear_at 0) 0 (omega arith) (clear_of_none (entry_at a 0)) }
-
-  pub round_more : (from t i r : ℕ) (d : Entry) → i < n → n ≤ length es → Rounds from t i → Step (λ (j : ℕ). clear (entry_at a j) (get_or es i d)) t r
-      → Rounds from r (i + 1)
-  round_more from t i r d l b h s =
-      let e = front_take n es i d (omega arith) in
-      record {
-        within = omega arith;
-        below = h.below;
-        round = subst (λ (f : ℕ → Bool). Step f from r) (same e) (then (clear_at i) (λ (j : ℕ). clear (entry_at a j) (get_or es i d)) from t r h.round s);
-      }
+  pub round_more : (t r s i : ℕ) (d : Entry) → i < length es → Step (clear_at i) t r → Step (λ (j : ℕ). clear (entry_at a j) (get_or es i d)) r s
+      → Step (clear_at (i + 1)) t s
+  round_more t r s i d l x y =
+      subst (λ (f : ℕ → Bool). Step f t s) (same (front_take (i + 1) es i d (omega arith)))
+      (then (clear_at i) (λ (j : ℕ). clear (entry_at a j) (get_or es i d)) t r s x y)
     where
       same : take (i + 1) es ≡ take i es ++ (get_or es i d ∷ [])
           → ◌≡◌ {A = ℕ → Bool} (λ (j : ℕ). clear_at i j && clear (entry_at a j) (get_or es i d)) (clear_at (i + 1))
       same e = fun_ext (λ j. sym (ap (clear_of (entry_at a j)) e ∙ clear_of_snoc (entry_at a j) (take i es) (get_or es i d)))
 
-  pub found : (from t i end : ℕ) → end ≡ (exchange_of a).to → n ≤ i → t ≡ from → t + end ≤ L → Rounds from t i → At t ≡ place L (take n es) a
-  unfolding fits
-  found from t i end q all here ends h =
-      let full : clear_of (entry_at a t) (take n es) ≡ true = subst (λ (k : ℕ). clear_of (entry_at a t) (take k es) ≡ true) (le_antisymm h.within all)
-      (subst (λ (k : ℕ). clear_at i k ≡ true) (sym here) (h.round.same here)) in
-      place_at L (take n es) a t (and_yes _ _ (le-leb (spans (entry_at a t)).hi L (omega arith)) full) (λ j l. h.below j (omega arith))
+-- rounds over the first n entries: no start below t fits
+module _ (L : ℕ) (a : Ask) (n : ℕ) (es : List Entry) where
+  pub record Below (t : ℕ) : Type 0 where
+    pub none : (j : ℕ) → j < t → fits L (take n es) (entry_at a j) ≡ false
 
-  pub none_left : (from t i end : ℕ) → end ≡ (exchange_of a).to → L < t + end → Rounds from t i → Nowhere ≡ place L (take n es) a
-  none_left from t i end q over h =
-      place_none L (take n es) a (λ j. ⊎_elim (λ k. late L (take n es) (entry_at a j) (omega arith)) (λ k. none_yet from t i h j k) (le_or_lt t j))
+  pub below_first : Below 0
+  below_first = record { none = λ j l. absurd (omega arith) }
+
+  pub below_more : (t r : ℕ) → Below t → Step (clear_at a es n) t r → Below r
+  unfolding fits
+  below_more t r h s =
+      record {
+        none = λ j l. ⊎_elim (λ k. and_no_right (leb (spans (entry_at a j)).hi L) _ (s.none j k l)) (λ k. h.none j k) (le_or_lt t j);
+      }
+
+  pub found : (t end : ℕ) → end ≡ (exchange_of a).to → t + end ≤ L → Below t → clear_at a es n t ≡ true → Some t ≡ place L (take n es) a
+  unfolding fits
+  found t end q ends h full = place_at L (take n es) a t (and_yes _ _ (le-leb (spans (entry_at a t)).hi L (omega arith)) full) h.none
+
+  pub none_left : (t end : ℕ) → end ≡ (exchange_of a).to → L < t + end → Below t → None ≡ place L (take n es) a
+  none_left t end q over h =
+      place_none L (take n es) a (λ j. ⊎_elim (λ k. late L (take n es) (entry_at a j) (omega arith)) (λ k. h.none j k) (le_or_lt t j))

@@ -1,4 +1,5 @@
 -- Counts by unit, and whether a unit has reached its limit.
+use Rattle.std.specs.Prelude.{None}
 use Prim.Native.Nat.{ℕ, ◌+◌, ◌≤◌, ◌<◌}
 use native.Mathlib.Omega.{arith}
 use mathlib.Core.Path.{◌≡◌, refl, sym, ap, ◌∙◌}
@@ -12,7 +13,6 @@ use borrow.Author.Tests.{lt-ltb, le-ltb, eqb-true, eqb-false}
 use Rattle.lists.proofs.Count.{count_nil, count_le, count_snoc_yes, count_snoc_no}
 use Rattle.planner_rules.specs.declared.request.Ask.{Ask}
 use Rattle.planner_rules.specs.declared.entry.Entry.{Entry}
-use Rattle.planner_rules.specs.declared.plan.Place.TheVariants.{Nowhere}
 use Rattle.planner_rules.specs.Fits.{place}
 use Rattle.planner_rules.specs.Shares.{share}
 use Rattle.planner_rules.specs.Plan.{of_unit, taken, tried}
@@ -55,7 +55,7 @@ module _ (L : ℕ) (limits c : List ℕ) (es : List Entry) (a : Ask) (eight : le
   abbrev unit : ℕ
   unit = a.request.unit
 
-  pub at_limit : share limits unit ≤ share c unit → Nowhere ≡ tried L (share limits unit) es a
+  pub at_limit : share limits unit ≤ share c unit → None ≡ tried L (share limits unit) es a
   unfolding tried
   at_limit l =
       ⊎_elim

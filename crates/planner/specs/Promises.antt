@@ -1,11 +1,10 @@
 -- What the constructors of an exchange give, and what the parts of the search promise each other.
-use Rattle.std.specs.Prelude.{ℕ, ◌+◌, ◌*◌, ◌≤◌, ◌<◌, ◌≡◌, ◌⊎◌, Bool, true, false, List, length, get_or, take, set}
+use Rattle.std.specs.Prelude.{ℕ, ◌+◌, ◌*◌, ◌≤◌, ◌<◌, ◌≡◌, ◌⊎◌, Bool, true, false, List, length, get_or, take, set, Option}
 use Rattle.planner.specs.declared.exchange.Exchange.{Exchange}
 use Rattle.planner_rules.specs.declared.request.Ask.{Ask}
 use Rattle.planner_rules.specs.declared.entry.Entry.{Entry}
-use Rattle.planner_rules.specs.declared.plan.Place.{Place}
 use Rattle.planner_rules.specs.Exchange.{Course, sent_long, earliest, longest, exchange_of, entry_at, transmits, listens, clear}
-use Rattle.planner_rules.specs.Fits.{place}
+use Rattle.planner_rules.specs.Fits.{clear_of, place}
 use Rattle.planner_rules.specs.Shares.{share}
 use Rattle.lists.specs.Lists.{over}
 use Rattle.planner_rules.specs.declared.plan.Planned.{Planned}
@@ -74,8 +73,15 @@ pub record ClearingRow (p : Exchange) (address : ℕ) (rows : List ℕ) (i t r :
   pub cap : r ≤ 200000
   pub step : (a : Ask) (e : Entry) → p ≡ held (exchange_of a) → address ≡ a.request.address → Told rows i e → Step (λ (j : ℕ). clear (entry_at a j) e) t r
 
+-- a round from t to r over the first n of any entries that the rows show
+pub record Rounded (p : Exchange) (address : ℕ) (rows : List ℕ) (n t r : ℕ) : Type 0 where
+  pub up : t ≤ r
+  pub cap : r ≤ 200000
+  pub step : (a : Ask) (es : List Entry) → p ≡ held (exchange_of a) → address ≡ a.request.address → n ≤ length es → Shown rows n es
+      → Step (λ (j : ℕ). clear_of (entry_at a j) (take n es)) t r
+
 -- the place of a request beside the first n of any entries that the rows show
-abbrev pub Placing : ℕ → Ask → ℕ → List ℕ → Place → Type 0
+abbrev pub Placing : ℕ → Ask → ℕ → List ℕ → Option ℕ → Type 0
 Placing L a n rows r = (es : List Entry) → n ≤ length es → Shown rows n es → r ≡ place L (take n es) a
 
 -- a list of eight counts says how many entries each unit has

@@ -10,7 +10,7 @@ pub fn entry_at(a: Ask, start: u16) -> Entry
 {
     Entry {
         ask: a,
-        start: start,
+        start,
         status: Status::Open,
     }
 }

@@ -89,7 +89,7 @@ impl Exchange {
         let open = Self::EARLIEST + wide(near);
         let end = Self::LATEST + wide(far) + Exchange::reply(rr);
         Exchange {
-            sent: sent,
+            sent,
             from: open,
             to: end,
         }

@@ -11,5 +11,5 @@ mod shares;
 pub use entry::entry_at;
 pub use exchange::Exchange;
 pub use plan::make_plan;
-pub use planner_rules::{Ask, Asks, Entry, Place, Planned, Request, Setup, Status};
+pub use planner_rules::{Ask, Asks, Entry, Planned, Request, Setup, Status};
 pub use shares::judge;

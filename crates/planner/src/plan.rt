@@ -11,7 +11,7 @@ use crate::exchange::Exchange;
 use crate::search::first_fit;
 use crate::shares::share;
 use numbers::{live, wide};
-use planner_rules::{Ask, Asks, Entry, Place, Planned, Setup};
+use planner_rules::{Ask, Asks, Entry, Planned, Setup};
 
 // The limits in the turn of one unit: its own share, and nothing for the others.
 fn alone_in(u: usize, shares: [u8; 8]) -> [u8; 8]
@@ -31,8 +31,7 @@ fn one_more(counts: &mut [u8; 8], unit: u8)
     if 8 <= unit {
         return;
     }
-    let u = unit as usize;
-    counts[u] = counts[u] + 1;
+    counts[unit as usize] += 1;
 }
 
 // Writes row i, the five numbers that the search reads of a request placed at a start.
@@ -66,33 +65,31 @@ fn pass_over(
     let mut entries = b.entries;
     let mut waiting: usize = 0;
     let mut asks = b.asks;
-    let mut i: usize = 0;
-    while i < b.waiting {
+    for i in 0..b.waiting {
         let a = asks[i];
-        i += 1;
         if share(limits, a.request.unit) <= share(*counts, a.request.unit) {
             asks[waiting] = a;
             waiting += 1;
             continue;
         }
         match first_fit(l, a, placed, rows) {
-            Place::At(t) => {
+            Some(t) => {
                 entries[placed] = entry_at(a, t);
                 note(rows, placed, a, t);
                 one_more(counts, a.request.unit);
                 placed += 1;
             }
-            Place::Nowhere => {
+            None => {
                 asks[waiting] = a;
                 waiting += 1;
             }
         }
     }
     Planned {
-        placed: placed,
-        entries: entries,
-        waiting: waiting,
-        asks: asks,
+        placed,
+        entries,
+        waiting,
+        asks,
     }
 }
 
@@ -102,12 +99,7 @@ fn over_slots(base: [Ask; 128], n: usize, asks: [Ask; 128]) -> [Ask; 128]
     ensures { result ≡ over (take n asks) base }
 {
     let mut out = base;
-    let mut i: usize = 0;
-    while i < n {
-        let a = asks[i];
-        out[i] = a;
-        i += 1;
-    }
+    out[..n].copy_from_slice(&asks[..n]);
     out
 }
 
@@ -117,22 +109,18 @@ fn make_passes(s: Setup, n: usize, asks: [Ask; 128], old: [Entry; 128]) -> Plann
     ensures { Laid (plan s (take n asks)) old result }
 {
     let l = wide(s.period);
-    let guarantee = s.guarantee;
-    let ceiling = s.ceiling;
     let mut rows = [0u32; 640];
     let mut counts = [0u8; 8];
     let mut r = Planned {
         placed: 0,
         entries: old,
         waiting: n,
-        asks: asks,
+        asks,
     };
-    let mut u: usize = 0;
-    while u < 8 {
-        r = pass_over(l, alone_in(u, guarantee), &mut rows, &mut counts, r);
-        u += 1;
+    for u in 0..8 {
+        r = pass_over(l, alone_in(u, s.guarantee), &mut rows, &mut counts, r);
     }
-    pass_over(l, ceiling, &mut rows, &mut counts, r)
+    pass_over(l, s.ceiling, &mut rows, &mut counts, r)
 }
 
 // The plan. It is written over the slots of the old one, and what still waits over those of the waiting list. With nothing waiting
@@ -141,23 +129,16 @@ pub fn make_plan(s: Setup, w: Asks, old: [Entry; 128]) -> Planned
     ensures { result ≡ in_slots (plan s (asks_of w)) old w.list }
 {
     let n = live(w.n, 128);
-    let base = w.list;
+    let list = w.list;
     if n == 0 {
         return Planned {
             placed: 0,
             entries: old,
             waiting: 0,
-            asks: base,
+            asks: list,
         };
     }
-    let r = make_passes(s, n, base, old);
-    let entries = r.entries;
-    let left = r.asks;
-    let asks = over_slots(base, r.waiting, left);
-    Planned {
-        placed: r.placed,
-        entries: entries,
-        waiting: r.waiting,
-        asks: asks,
-    }
+    let r = make_passes(s, n, list, old);
+    let asks = over_slots(list, r.waiting, r.asks);
+    Planned { asks, ..r }
 }

@@ -1,9 +1,9 @@
 // The search for the smallest start that fits, which jumps past what is in the way.
 ghost use Rattle.std.specs.Prelude.{ℕ, ◌≤◌, ◌<◌};
-ghost use Rattle.planner.specs.Promises.{Past, Small, Clearing, ClearingRow, Roomy, Placing};
+ghost use Rattle.planner.specs.Promises.{Past, Small, Clearing, ClearingRow, Roomy, Rounded, Placing};
 
 use crate::exchange::Exchange;
-use planner_rules::{Ask, Place};
+use planner_rules::Ask;
 
 // The first start from t on at which the interval from a up to b after it is apart from the one from lo up to hi.
 fn past(t: u32, a: u32, b: u32, lo: u32, hi: u32) -> u32
@@ -61,32 +61,36 @@ fn nudge(t: u32, p: Exchange, address: u32, i: usize, rows: &[u32; 640]) -> u32
     )
 }
 
+// One round over the n entries that the rows show, from t on: past each that is in the way.
+fn round(t: u32, p: Exchange, address: u32, n: usize, rows: &[u32; 640]) -> u32
+    requires { (t ≤ 200000) × Small p × (n ≤ 128) × ((i : ℕ) → i < n → Roomy rows.now i) }
+    ensures { Rounded p address rows.now n t result }
+{
+    let mut start = t;
+    for i in 0..n {
+        start = nudge(start, p, address, i, rows);
+    }
+    start
+}
+
 // The smallest start that fits beside the n entries that the rows show: round after round over them, from where the last one came
 // to, until one moves nothing.
-pub(crate) fn first_fit(l: u32, a: Ask, n: usize, rows: &[u32; 640]) -> Place
+pub(crate) fn first_fit(l: u32, a: Ask, n: usize, rows: &[u32; 640]) -> Option<u16>
     requires { (l ≤ 65535) × (n ≤ 128) × ((i : ℕ) → i < n → Roomy rows.now i) }
     ensures { Placing l a n rows.now result }
 {
     let p = Exchange::of(a);
-    if l < p.to {
-        return Place::Nowhere;
+    let too_long = l < p.to;
+    if too_long {
+        return None;
     }
-    let last = l - p.to;
-    let address = a.request.address;
-    let mut from: u32 = 0;
     let mut t: u32 = 0;
-    let mut i: usize = 0;
-    while t <= last {
-        if i < n {
-            t = nudge(t, p, address, i, rows);
-            i += 1;
-            continue;
+    while t <= l - p.to {
+        let next = round(t, p, a.request.address, n, rows);
+        if next == t {
+            return Some(t as u16);
         }
-        if t == from {
-            return Place::At(t as u16);
-        }
-        from = t;
-        i = 0;
+        t = next;
     }
-    Place::Nowhere
+    None
 }

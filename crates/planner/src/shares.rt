@@ -1,18 +1,13 @@
 // The shares of a setup, and whether they fit.
 ghost use Rattle.std.specs.Prelude.{◌≡◌, ◌≤◌};
 ghost use Rattle.lists.specs.Lists.{total, every};
+ghost use Rattle.refusals.specs.Refusals.{number_given};
 ghost use Rattle.planner_rules.specs.Shares.{share, in_range, ordered, shares_fit, setup_ranged, shares_good, setup_number};
 
 use crate::exchange::Exchange;
 use numbers::wide;
 use planner_rules::Setup;
-
-// A number of 8 bits among those of 32.
-fn byte(x: u8) -> u32
-    ensures { (result ≡ x) × (result ≤ 255) }
-{
-    x as u32
-}
+use refusals::Refusal;
 
 // A unit's share; a unit above 7 has none.
 pub(crate) fn share(shares: [u8; 8], unit: u8) -> u32
@@ -21,96 +16,59 @@ pub(crate) fn share(shares: [u8; 8], unit: u8) -> u32
     if 8 <= unit {
         return 0;
     }
-    byte(shares[unit as usize])
+    u32::from(shares[unit as usize])
 }
 
 fn sum(shares: [u8; 8]) -> u32
     ensures { (result ≡ total (share shares) 8) × (result ≤ 2040) }
 {
-    let mut k: u32 = 0;
-    let mut u: u8 = 0;
-    while u < 8 {
-        k += share(shares, u);
-        u += 1;
-    }
-    k
+    shares.iter().map(|&x| u32::from(x)).sum()
 }
 
 // Whether every share is at most 16.
 fn in_range(shares: [u8; 8]) -> bool
     ensures { result ≡ every (in_range shares) 8 }
 {
-    let mut u: u8 = 0;
-    while u < 8 {
-        if 16 < share(shares, u) {
-            return false;
-        }
-        u += 1;
-    }
-    true
+    shares.iter().all(|&x| x <= 16)
 }
 
 // Whether no guarantee is above its ceiling.
 fn in_order(guarantee: [u8; 8], ceiling: [u8; 8]) -> bool
     ensures { result ≡ every (ordered guarantee ceiling) 8 }
 {
-    let mut u: u8 = 0;
-    while u < 8 {
-        if share(ceiling, u) < share(guarantee, u) {
-            return false;
-        }
-        u += 1;
-    }
-    true
+    guarantee.iter().zip(ceiling.iter()).all(|(g, c)| g <= c)
 }
 
 // Whether every guarantee has room for the longest exchange in reach.
 fn fit(s: Setup) -> bool
     ensures { result ≡ shares_fit s }
 {
-    let guarantee = s.guarantee;
-    sum(guarantee) * (Exchange::LONGEST + wide(s.reach)) <= wide(s.period)
+    sum(s.guarantee) * (Exchange::LONGEST + wide(s.reach)) <= wide(s.period)
 }
 
 // Whether the numbers of a setup are in their ranges.
 fn setup_ranged(s: Setup) -> bool
     ensures { result ≡ setup_ranged s }
 {
-    if 13000 < s.reach {
-        return false;
-    }
-    if 12 < s.limit {
-        return false;
-    }
-    let guarantee = s.guarantee;
-    if !in_range(guarantee) {
-        return false;
-    }
-    let ceiling = s.ceiling;
-    in_range(ceiling)
+    s.reach <= 13000 && s.limit <= 12 && in_range(s.guarantee) && in_range(s.ceiling)
 }
 
 // Whether no guarantee is above its ceiling, and the shares fit.
 fn shares_good(s: Setup) -> bool
     ensures { result ≡ shares_good s }
 {
-    let guarantee = s.guarantee;
-    let ceiling = s.ceiling;
-    if !in_order(guarantee, ceiling) {
-        return false;
-    }
-    fit(s)
+    in_order(s.guarantee, s.ceiling) && fit(s)
 }
 
-// The number that a setup is answered: 0, 2 or 3.
-pub fn judge(s: Setup) -> u8
-    ensures { result ≡ setup_number s }
+// Why a setup is refused: numbers outside their ranges, or shares that are not good.
+pub fn judge(s: Setup) -> Result<(), Refusal>
+    ensures { number_given result ≡ setup_number s }
 {
     if !setup_ranged(s) {
-        return 2;
+        return Err(Refusal::Range);
     }
     if !shares_good(s) {
-        return 3;
+        return Err(Refusal::Shares);
     }
-    0
+    Ok(())
 }

@@ -3,14 +3,14 @@ use Prim.Native.Nat.{ℕ, zero, suc, ◌+◌, ◌*◌, ◌≤◌, ◌<◌}
 use native.Mathlib.Omega.{arith}
 use native.Mathlib.Nat.{le_refl}
 use mathlib.Core.Path.{◌≡◌, refl, sym, subst, ap, ◌∙◌}
-use mathlib.Core.Bool.{Bool, true, false, not}
+use mathlib.Core.Bool.{Bool, true, false}
 use mathlib.Core.List.Sublistᴰ
 use mathlib.Core.List.{List, [], map, Sublistᴰ}
-use lib.Dec.{leb, eqb}
+use lib.Dec.{eqb}
 use lib.ListN.{length, take, drop, length-map}
 use lib.Seq.{take_at, drop_at}
 use borrow.Author.Tests.{leb-true, eqb-true, eqb-false, not-false}
-use Rattle.lists.specs.Lists.{pick, count_of, total, every, All}
+use Rattle.lists.specs.Lists.{count_of, total, every, All}
 use Rattle.lists.proofs.Tests.{and_true}
 use Rattle.lists.proofs.Checks.{zero_passed}
 use Rattle.lists.proofs.Count.{count_nil}

@@ -1,4 +1,5 @@
 -- Each unit gets its guarantee, or all that it has waiting, and the first phase places all that it tries.
+use Rattle.std.specs.Prelude.{Some, None}
 use Prim.Native.Nat.{ℕ, zero, suc, ◌+◌, ◌-◌, ◌*◌, ◌≤◌, ◌<◌, min}
 use native.Mathlib.Omega.{arith}
 use native.Mathlib.Nat.{eq-or-lt_of_le, le_of_suc-le-suc, le_refl, suc-mul, mul-le-mul_right}
@@ -19,7 +20,6 @@ use Rattle.lists.proofs.Total.{total_suc, total_le}
 use Rattle.planner_rules.specs.declared.request.Ask.{Ask}
 use Rattle.planner_rules.specs.declared.entry.Entry.{Entry}
 use Rattle.planner_rules.specs.declared.setup.Setup.{Setup}
-use Rattle.planner_rules.specs.declared.plan.Place.TheVariants.{At, Nowhere}
 use Rattle.planner_rules.specs.Exchange.{longest, entry_at, spans}
 use Rattle.planner_rules.specs.Fits.{fits, place}
 use Rattle.planner_rules.specs.Shares.{share}
@@ -63,11 +63,11 @@ module _ (s : Setup) where
       and_yes _ _ (le-leb (spans (entry_at a B)).hi s.period (omega (arith, reply_small a.request.rr))) (clear_of_late (entry_at a B) es o)
 
   -- where there is room after all that is placed, there is a place, and it is not later than that
-  place_early : (B : ℕ) (es : List Entry) (a : Ask) → Over B es → Proper s a → B + size ≤ s.period → (t : ℕ) → place s.period es a ≡ At t → t ≤ B
+  place_early : (B : ℕ) (es : List Entry) (a : Ask) → Over B es → Proper s a → B + size ≤ s.period → (t : ℕ) → place s.period es a ≡ Some t → t ≤ B
   place_early B es a o p room t h =
       ⊎_elim (λ l. l) (λ l. absurd (true≢false (sym (fits_late B es a o p room) ∙ at_first s.period es a t h B l))) (le_or_lt t B)
 
-  place_there : (B : ℕ) (es : List Entry) (a : Ask) → Over B es → Proper s a → B + size ≤ s.period → place s.period es a ≡ Nowhere → ⊥
+  place_there : (B : ℕ) (es : List Entry) (a : Ask) → Over B es → Proper s a → B + size ≤ s.period → place s.period es a ≡ None → ⊥
   place_there B es a o p room h = true≢false (sym (fits_late B es a o p room) ∙ nowhere_fits s.period es a h B)
 
   -- all is over after as many sizes as are placed
@@ -106,7 +106,7 @@ module _ (s : Setup) where
 
       -- a request of the unit that stays has the unit at its limit
       full : (es : List Entry) (a : Ask) → Packed es → Proper s a → length es + (k - taken u es) ≤ S → a.request.unit ≡ u
-          → (share limits a.request.unit ≤ taken a.request.unit es) ⊎ (place s.period es a ≡ Nowhere) → k ≤ taken u es
+          → (share limits a.request.unit ≤ taken a.request.unit es) ⊎ (place s.period es a ≡ None) → k ≤ taken u es
       full es a o p few q (inl h) = let i : share limits u ≤ taken u es = subst (λ (v : ℕ). share limits v ≤ taken v es) q h in omega arith
       full es a o p few q (inr h) =
           ⊎_elim (λ l. l) (λ l. absurd (place_there (length es * size) es a o p (room_for es (omega arith)) h)) (le_or_lt k (taken u es))

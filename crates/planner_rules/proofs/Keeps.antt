@@ -1,4 +1,5 @@
 -- What a pass keeps, and what it leaves.
+use Rattle.std.specs.Prelude.{Some, None}
 use Prim.Native.Nat.{ℕ, suc, ◌+◌, ◌≤◌, ◌<◌}
 use native.Mathlib.Omega.{arith}
 use native.Mathlib.Nat.{le_refl, eq-or-lt_of_le, le_of_suc-le-suc}
@@ -17,7 +18,6 @@ use Rattle.lists.proofs.Held.{all_nil, all_cons, all_head, all_tail, all_snoc}
 use Rattle.planner_rules.specs.declared.request.Ask.{Ask}
 use Rattle.planner_rules.specs.declared.entry.Entry.{Entry}
 use Rattle.planner_rules.specs.declared.entry.Status.TheVariants.{Open}
-use Rattle.planner_rules.specs.declared.plan.Place.TheVariants.{At, Nowhere}
 use Rattle.planner_rules.specs.Exchange.{entry_at, spans, clear}
 use Rattle.planner_rules.specs.Fits.{clear_of, fits, place}
 use Rattle.planner_rules.specs.Shares.{share}
@@ -30,19 +30,19 @@ use Rattle.planner_rules.proofs.Passes.{Passed, done, put, stay}
 
 -- each entry has its place beside those of lower numbers
 abbrev pub Numbered : ℕ → List Entry → Type 0
-Numbered L es = (z : Entry) (k : ℕ) → k < length es → place L (take k es) (get_or es k z).ask ≡ At (get_or es k z).start
+Numbered L es = (z : Entry) (k : ℕ) → k < length es → place L (take k es) (get_or es k z).ask ≡ Some (get_or es k z).start
 
-numbered_snoc : (L : ℕ) (es : List Entry) (a : Ask) (t : ℕ) → place L es a ≡ At t → Numbered L es → Numbered L (es ++ (entry_at a t ∷ []))
+numbered_snoc : (L : ℕ) (es : List Entry) (a : Ask) (t : ℕ) → place L es a ≡ Some t → Numbered L es → Numbered L (es ++ (entry_at a t ∷ []))
 numbered_snoc L es a t p h z k l =
     let n : length (es ++ (entry_at a t ∷ [])) ≡ suc (length es) = simp length-append (omega arith) in
     ⊎_elim last before (eq-or-lt_of_le (le_of_suc-le-suc (subst (λ (m : ℕ). k < m) n l)))
   where
     last : k ≡ length es
-        → place L (take k (es ++ (entry_at a t ∷ []))) (get_or (es ++ (entry_at a t ∷ [])) k z).ask ≡ At (get_or (es ++ (entry_at a t ∷ [])) k z).start
+        → place L (take k (es ++ (entry_at a t ∷ []))) (get_or (es ++ (entry_at a t ∷ [])) k z).ask ≡ Some (get_or (es ++ (entry_at a t ∷ [])) k z).start
     last e = rw (e, take-append_seam es (entry_at a t ∷ []), get_or-append_seam es (entry_at a t) [] z) p
 
     before : k < length es
-        → place L (take k (es ++ (entry_at a t ∷ []))) (get_or (es ++ (entry_at a t ∷ [])) k z).ask ≡ At (get_or (es ++ (entry_at a t ∷ [])) k z).start
+        → place L (take k (es ++ (entry_at a t ∷ []))) (get_or (es ++ (entry_at a t ∷ [])) k z).ask ≡ Some (get_or (es ++ (entry_at a t ∷ [])) k z).start
     before b =
         let le : k ≤ length es = omega arith in
         rw (take-append-le k es (entry_at a t ∷ []) le, get_or-append es (entry_at a t ∷ []) z k b) (h z k b)
@@ -70,7 +70,7 @@ Left L limits es a = (share limits a.request.unit ≤ taken a.request.unit es) �
 
 -- and it stays so among more
 module _ (L : ℕ) (limits : List ℕ) (es : List Entry) where
-  pub left_of : (a : Ask) → (share limits a.request.unit ≤ taken a.request.unit es) ⊎ (place L es a ≡ Nowhere) → Left L limits es a
+  pub left_of : (a : Ask) → (share limits a.request.unit ≤ taken a.request.unit es) ⊎ (place L es a ≡ None) → Left L limits es a
   left_of a (inl h) = inl h
   left_of a (inr h) = inr (nowhere_fits L es a h)
 

@@ -1,4 +1,5 @@
 -- A pass, step by step, as a relation between what is placed and waits before and after.
+use Rattle.std.specs.Prelude.{Option, Some, None}
 use Prim.Native.Nat.{ℕ, zero, suc, ◌+◌, ◌≤◌, ◌<◌}
 use native.Mathlib.Omega.{arith}
 use native.Mathlib.Nat.{le_refl}
@@ -12,8 +13,6 @@ use borrow.Author.Tests.{ltb-true, ltb-false}
 use Rattle.lists.specs.Lists.{pick}
 use Rattle.planner_rules.specs.declared.request.Ask.{Ask}
 use Rattle.planner_rules.specs.declared.entry.Entry.{Entry}
-use Rattle.planner_rules.specs.declared.plan.Place.{Place}
-use Rattle.planner_rules.specs.declared.plan.Place.TheVariants.{At, Nowhere}
 use Rattle.planner_rules.specs.Exchange.{entry_at}
 use Rattle.planner_rules.specs.Fits.{place}
 use Rattle.planner_rules.specs.Shares.{share}
@@ -23,23 +22,23 @@ use Rattle.planner_rules.specs.Plan.{taken, Board, tried, stays, pass, alone, tu
 -- the list is done; a request is put behind those placed; or it stays
 pub data Passed (L : ℕ) (limits : List ℕ) : List Entry → List Ask → List Entry → List Ask → Type 0 where
   done : {es : List Entry} → Passed L limits es [] es []
-  put : {es es' : List Entry} {w w' : List Ask} (a : Ask) (t : ℕ) → taken a.request.unit es < share limits a.request.unit → place L es a ≡ At t
+  put : {es es' : List Entry} {w w' : List Ask} (a : Ask) (t : ℕ) → taken a.request.unit es < share limits a.request.unit → place L es a ≡ Some t
       → Passed L limits (es ++ (entry_at a t ∷ [])) w es' w' → Passed L limits es (a ∷ w) es' w'
-  stay : {es es' : List Entry} {w w' : List Ask} (a : Ask) → (share limits a.request.unit ≤ taken a.request.unit es) ⊎ (place L es a ≡ Nowhere)
+  stay : {es es' : List Entry} {w w' : List Ask} (a : Ask) → (share limits a.request.unit ≤ taken a.request.unit es) ⊎ (place L es a ≡ None)
       → Passed L limits es w es' w' → Passed L limits es (a ∷ w) es' (a ∷ w')
 
 module _ (L : ℕ) (limits : List ℕ) where
-  abbrev Tried : List Entry → Ask → Place → Type 0
-  Tried es a (At t) = (taken a.request.unit es < share limits a.request.unit) × (place L es a ≡ At t)
-  Tried es a Nowhere = (share limits a.request.unit ≤ taken a.request.unit es) ⊎ (place L es a ≡ Nowhere)
+  abbrev Tried : List Entry → Ask → Option ℕ → Type 0
+  Tried es a (Some t) = (taken a.request.unit es < share limits a.request.unit) × (place L es a ≡ Some t)
+  Tried es a None = (share limits a.request.unit ≤ taken a.request.unit es) ⊎ (place L es a ≡ None)
 
   try_is : (es : List Entry) (a : Ask) → Tried es a (tried L (share limits a.request.unit) es a)
   unfolding tried
   try_is es a = go (ltb (taken a.request.unit es) (share limits a.request.unit)) refl (place L es a) refl
     where
-      go : (b : Bool) → ltb (taken a.request.unit es) (share limits a.request.unit) ≡ b → (s : Place) → place L es a ≡ s → Tried es a (pick b s Nowhere)
-      go true e (At t) h = (ltb-true _ _ e, h)
-      go true e Nowhere h = inr h
+      go : (b : Bool) → ltb (taken a.request.unit es) (share limits a.request.unit) ≡ b → (s : Option ℕ) → place L es a ≡ s → Tried es a (pick b s None)
+      go true e (Some t) h = (ltb-true _ _ e, h)
+      go true e None h = inr h
       go false e s h = inl (ltb-false _ _ e)
 
   pub passed : (es : List Entry) (w : List Ask) → Passed L limits es w (pass L limits es w).placed (pass L limits es w).waiting
@@ -47,12 +46,12 @@ module _ (L : ℕ) (limits : List ℕ) where
   passed es [] = done
   passed es (a ∷ w) = go (tried L (share limits a.request.unit) es a) (try_is es a) (λ es. passed es w)
     where
-      go : (s : Place) → Tried es a s → ((es : List Entry) → Passed L limits es w (pass L limits es w).placed (pass L limits es w).waiting)
+      go : (s : Option ℕ) → Tried es a s → ((es : List Entry) → Passed L limits es w (pass L limits es w).placed (pass L limits es w).waiting)
           → Passed L limits es (a ∷ w)
-          (elim s as (λ _. Board) [ At t ↦ pass L limits (es ++ (entry_at a t ∷ [])) w | Nowhere ↦ stays a (pass L limits es w) ]).placed
-          (elim s as (λ _. Board) [ At t ↦ pass L limits (es ++ (entry_at a t ∷ [])) w | Nowhere ↦ stays a (pass L limits es w) ]).waiting
-      go (At t) h ih = put a t h.0 h.1 (ih (es ++ (entry_at a t ∷ [])))
-      go Nowhere h ih = stay a h (ih es)
+          (elim s as (λ _. Board) [ Some t ↦ pass L limits (es ++ (entry_at a t ∷ [])) w | None ↦ stays a (pass L limits es w) ]).placed
+          (elim s as (λ _. Board) [ Some t ↦ pass L limits (es ++ (entry_at a t ∷ [])) w | None ↦ stays a (pass L limits es w) ]).waiting
+      go (Some t) h ih = put a t h.0 h.1 (ih (es ++ (entry_at a t ∷ [])))
+      go None h ih = stay a h (ih es)
 
 snoc_length : {A : Type 0} (v : List A) (x : A) → length (v ++ (x ∷ [])) ≡ suc (length v)
 snoc_length v x = simp length-append (omega arith)

@@ -1,4 +1,5 @@
 -- The place of a request is the smallest start that fits, and there is one answer.
+use Rattle.std.specs.Prelude.{Option, Some, None}
 use Prim.Native.Nat.{ℕ, zero, suc, ◌+◌, ◌≤◌, ◌<◌, zero-le}
 use native.Mathlib.Omega.{arith}
 use native.Mathlib.Nat.{eq-or-lt_of_le, le_refl}
@@ -12,8 +13,6 @@ use Rattle.lists.specs.Lists.{pick}
 use Rattle.lists.proofs.Tests.{and_left, and_right, and_no_left}
 use Rattle.planner_rules.specs.declared.request.Ask.{Ask}
 use Rattle.planner_rules.specs.declared.entry.Entry.{Entry}
-use Rattle.planner_rules.specs.declared.plan.Place.{Place}
-use Rattle.planner_rules.specs.declared.plan.Place.TheVariants.{At, Nowhere}
 use Rattle.planner_rules.specs.Exchange.{entry_at, spans}
 use Rattle.planner_rules.specs.Fits.{clear_of, fits, first, place}
 
@@ -25,36 +24,36 @@ le_or_lt a b = go (leb a b) refl
     go false e = inr (leb-false a b e)
 
 -- the answer of a search over the n numbers from t on: the smallest that passes, or none does
-abbrev pub Smallest : (ℕ → Bool) → ℕ → ℕ → Place → Type 0
-Smallest f n t (At s) = (t ≤ s) × (s < t + n) × (f s ≡ true) × ((j : ℕ) → t ≤ j → j < s → f j ≡ false)
-Smallest f n t Nowhere = (j : ℕ) → t ≤ j → j < t + n → f j ≡ false
+abbrev pub Smallest : (ℕ → Bool) → ℕ → ℕ → Option ℕ → Type 0
+Smallest f n t (Some s) = (t ≤ s) × (s < t + n) × (f s ≡ true) × ((j : ℕ) → t ≤ j → j < s → f j ≡ false)
+Smallest f n t None = (j : ℕ) → t ≤ j → j < t + n → f j ≡ false
 
 from_here : (f : ℕ → Bool) (t : ℕ) → f t ≡ false → (m : ℕ) → ((j : ℕ) → suc t ≤ j → j < m → f j ≡ false) → (j : ℕ) → t ≤ j → j < m → f j ≡ false
 from_here f t e m all j h k = ⊎_elim (λ q. subst (λ (i : ℕ). f i ≡ false) q e) (λ l. all j l k) (eq-or-lt_of_le h)
 
-one_more : (f : ℕ → Bool) (n t : ℕ) → f t ≡ false → (s : Place) → Smallest f n (suc t) s → Smallest f (suc n) t s
-one_more f n t e (At s) h = (omega arith, omega arith, h.2, from_here f t e s h.3)
-one_more f n t e Nowhere h = from_here f t e (t + suc n) (λ j l k. h j l (omega arith))
+one_more : (f : ℕ → Bool) (n t : ℕ) → f t ≡ false → (s : Option ℕ) → Smallest f n (suc t) s → Smallest f (suc n) t s
+one_more f n t e (Some s) h = (omega arith, omega arith, h.2, from_here f t e s h.3)
+one_more f n t e None h = from_here f t e (t + suc n) (λ j l k. h j l (omega arith))
 
 first_is : (f : ℕ → Bool) (n t : ℕ) → Smallest f n t (first f n t)
 unfolding first
 first_is f zero t = λ j h k. absurd (omega arith)
 first_is f (suc n) t = go (f t) refl (first_is f n (suc t))
   where
-    go : (b : Bool) → f t ≡ b → Smallest f n (suc t) (first f n (suc t)) → Smallest f (suc n) t (pick (f t) (At t) (first f n (suc t)))
+    go : (b : Bool) → f t ≡ b → Smallest f n (suc t) (first f n (suc t)) → Smallest f (suc n) t (pick (f t) (Some t) (first f n (suc t)))
     go true e ih = rw e (le_refl t, omega arith, e, λ j h k. absurd (omega arith))
     go false e ih = rw e (one_more f n t e (first f n (suc t)) ih)
 
 -- there is one answer
-smallest_one : (f : ℕ → Bool) (n t : ℕ) (x y : Place) → Smallest f n t x → Smallest f n t y → x ≡ y
-smallest_one f n t (At a) (At b) p q =
+smallest_one : (f : ℕ → Bool) (n t : ℕ) (x y : Option ℕ) → Smallest f n t x → Smallest f n t y → x ≡ y
+smallest_one f n t (Some a) (Some b) p q =
     ⊎_elim
-    (λ l. ⊎_elim (λ e. ap At e) (λ k. absurd (true≢false (sym p.2 ∙ q.3 a p.0 k))) (eq-or-lt_of_le l))
+    (λ l. ⊎_elim (λ e. ap Some e) (λ k. absurd (true≢false (sym p.2 ∙ q.3 a p.0 k))) (eq-or-lt_of_le l))
     (λ k. absurd (true≢false (sym q.2 ∙ p.3 b q.0 k)))
     (le_or_lt a b)
-smallest_one f n t (At a) Nowhere p q = absurd (true≢false (sym p.2 ∙ q a p.0 p.1))
-smallest_one f n t Nowhere (At b) p q = absurd (true≢false (sym q.2 ∙ p b q.0 q.1))
-smallest_one f n t Nowhere Nowhere p q = refl
+smallest_one f n t (Some a) None p q = absurd (true≢false (sym p.2 ∙ q a p.0 p.1))
+smallest_one f n t None (Some b) p q = absurd (true≢false (sym q.2 ∙ p b q.0 q.1))
+smallest_one f n t None None p q = refl
 
 -- what ends after L does not fit
 pub late : (L : ℕ) (es : List Entry) (d : Entry) → L < (spans d).hi → fits L es d ≡ false
@@ -62,7 +61,7 @@ unfolding fits
 late L es d h = and_no_left _ _ (lt-leb (spans d).hi L h)
 
 module _ (L : ℕ) (es : List Entry) (a : Ask) where
-  abbrev Answer : Place → Type 0
+  abbrev Answer : Option ℕ → Type 0
   Answer s = Smallest (λ t. fits L es (entry_at a t)) (suc L) 0 s
 
   answer : Answer (place L es a)
@@ -70,23 +69,23 @@ module _ (L : ℕ) (es : List Entry) (a : Ask) where
   answer = first_is _ (suc L) 0
 
   -- a start that fits, and none before it does, is the place; and so is none where none fits
-  pub place_at : (t : ℕ) → fits L es (entry_at a t) ≡ true → ((j : ℕ) → j < t → fits L es (entry_at a j) ≡ false) → At t ≡ place L es a
+  pub place_at : (t : ℕ) → fits L es (entry_at a t) ≡ true → ((j : ℕ) → j < t → fits L es (entry_at a j) ≡ false) → Some t ≡ place L es a
   unfolding fits
   place_at t f none =
       let h : (spans (entry_at a t)).hi ≤ L = leb-true _ _ (and_left _ (clear_of (entry_at a t) es) f) in
-      smallest_one _ (suc L) 0 (At t) (place L es a) (zero-le, omega arith, f, λ j _ l. none j l) answer
+      smallest_one _ (suc L) 0 (Some t) (place L es a) (zero-le, omega arith, f, λ j _ l. none j l) answer
 
-  pub place_none : ((t : ℕ) → fits L es (entry_at a t) ≡ false) → Nowhere ≡ place L es a
-  place_none none = smallest_one _ (suc L) 0 Nowhere (place L es a) (λ j _ _. none j) answer
+  pub place_none : ((t : ℕ) → fits L es (entry_at a t) ≡ false) → None ≡ place L es a
+  place_none none = smallest_one _ (suc L) 0 None (place L es a) (λ j _ _. none j) answer
 
   -- and what the place says
-  pub at_fits : (t : ℕ) → place L es a ≡ At t → fits L es (entry_at a t) ≡ true
+  pub at_fits : (t : ℕ) → place L es a ≡ Some t → fits L es (entry_at a t) ≡ true
   at_fits t e = (subst Answer e answer).2
 
-  pub at_first : (t : ℕ) → place L es a ≡ At t → (j : ℕ) → j < t → fits L es (entry_at a j) ≡ false
+  pub at_first : (t : ℕ) → place L es a ≡ Some t → (j : ℕ) → j < t → fits L es (entry_at a j) ≡ false
   at_first t e j l = (subst Answer e answer).3 j zero-le l
 
-  pub nowhere_fits : place L es a ≡ Nowhere → (t : ℕ) → fits L es (entry_at a t) ≡ false
+  pub nowhere_fits : place L es a ≡ None → (t : ℕ) → fits L es (entry_at a t) ≡ false
   nowhere_fits e t =
       ⊎_elim
       (λ l. (subst Answer e answer) t zero-le (omega arith))

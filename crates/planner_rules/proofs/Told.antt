@@ -1,4 +1,5 @@
 -- A plan is told by its lines: unit, address and start of each entry leave no doubt which requests were placed and which are left.
+use Rattle.std.specs.Prelude.{Some}
 use Prim.Native.Nat.{ℕ, ◌≤◌, ◌<◌}
 use native.Mathlib.Omega.{arith}
 use mathlib.Core.Path.{◌≡◌, refl, sym, subst, ap, ap₂, ◌∙◌}
@@ -16,7 +17,6 @@ use Rattle.lists.proofs.Tests.{and_no_right}
 use Rattle.planner_rules.specs.declared.request.Ask.{Ask}
 use Rattle.planner_rules.specs.declared.entry.Entry.{Entry}
 use Rattle.planner_rules.specs.declared.setup.Setup.{Setup}
-use Rattle.planner_rules.specs.declared.plan.Place.TheVariants.{At}
 use Rattle.planner_rules.specs.Exchange.{entry_at}
 use Rattle.planner_rules.specs.Fits.{fits, place}
 use Rattle.planner_rules.specs.Shares.{share, setup_number}
@@ -45,7 +45,7 @@ module _ (p : Ask → Bool) (a : Ask) (h : p a ≡ true) (w : List Ask) where
 -- ---- a pass, told by the lines of what it places
 module _ (L : ℕ) (limits : List ℕ) where
   -- a line can be of the request that was placed, and of none that stayed before it
-  meant : (es : List Entry) (a : Ask) (t : ℕ) → place L es a ≡ At t → is_meant L es (entry_shown (entry_at a t)) a ≡ true
+  meant : (es : List Entry) (a : Ask) (t : ℕ) → place L es a ≡ Some t → is_meant L es (entry_shown (entry_at a t)) a ≡ true
   meant es a t p = rw (eq-eqb a.request.unit a.request.unit refl, eq-eqb a.request.address a.request.address refl) (at_fits L es a t p)
 
   not_meant : (es : List Entry) (a : Ask) (t : ℕ) → taken a.request.unit es < share limits a.request.unit → (b : Ask) → Left L limits es b
@@ -63,7 +63,8 @@ module _ (L : ℕ) (limits : List ℕ) where
 
   -- one line more
   next_line : (es : List Entry) (x : EntryShown) (xs : List EntryShown) (w v : List Ask) (a : Ask)
-      → oldest_that (is_meant L es x) w ≡ a ∷ [] → without_it (is_meant L es x) w ≡ v → told_by L es (x ∷ xs) w ≡ told_by L (es ++ (entry_at a x.start ∷ [])) xs v
+      → oldest_that (is_meant L es x) w ≡ a ∷ [] → without_it (is_meant L es x) w ≡ v
+      → told_by L es (x ∷ xs) w ≡ told_by L (es ++ (entry_at a x.start ∷ [])) xs v
   unfolding told_by
   next_line es x xs w v a e f =
       ap₂ (λ (l u : List Ask). told_by L (es ++ map (λ (b : Ask). entry_at b x.start) l) xs u) e f
@@ -80,7 +81,8 @@ module _ (L : ℕ) (limits : List ℕ) where
   read v h (put {es = es} {es' = es'} {w = w} {w' = w'} a t c p r) =
       let x = entry_shown (entry_at a t) in
       let e = entry_at a t in
-      let none : All (λ (b : Ask). is_meant L es x b ≡ false) v = all_map (Left L limits es) (λ (b : Ask). is_meant L es x b ≡ false) (not_meant es a t c) v h in
+      let none : All (λ (b : Ask). is_meant L es x b ≡ false) v = all_map (Left L limits es) (λ (b : Ask). is_meant L es x b ≡ false)
+      (not_meant es a t c) v h in
       let later = read v (all_map (Left L limits es) (Left L limits (es ++ (e ∷ []))) (λ b k. left_more L limits es e b k) v h) r in
       record {
         new = e ∷ later.new;

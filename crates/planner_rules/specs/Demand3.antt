@@ -1,12 +1,11 @@
 -- Demand 3 of a plan, on the entries in the order placed and the requests left waiting.
-use Rattle.std.specs.Prelude.{ℕ, zero, suc, ◌+◌, ◌≤◌, ◌<◌, min, ◌≡◌, ◌⊎◌, Bool, false, ◌&&◌, leb, ltb, eqb, length, get_or, take, drop}
+use Rattle.std.specs.Prelude.{ℕ, zero, suc, ◌+◌, ◌≤◌, ◌<◌, min, ◌≡◌, ◌⊎◌, Bool, false, ◌&&◌, leb, ltb, eqb, length, get_or, take, drop, Some}
 use mathlib.Core.List.{List, [], ◌∷◌, ◌++◌, map, Sublistᴰ}
 use Rattle.lists.specs.Lists.{count_of, filter, All}
 use Rattle.planner_rules.specs.declared.request.Ask.{Ask}
 use Rattle.planner_rules.specs.declared.entry.Entry.{Entry}
 use Rattle.planner_rules.specs.declared.entry.Status.TheVariants.{Open}
 use Rattle.planner_rules.specs.declared.setup.Setup.{Setup}
-use Rattle.planner_rules.specs.declared.plan.Place.TheVariants.{At}
 use Rattle.planner_rules.specs.Exchange.{Span, entry_at, transmits, listens, spans}
 use Rattle.planner_rules.specs.Fits.{fits, place}
 use Rattle.planner_rules.specs.Shares.{share}
@@ -65,7 +64,7 @@ pub record Demand3 (s : Setup) (w : List Ask) (placed : List Entry) (left : List
   pub keeps_order : Sublistᴰ left w
   pub none_lost : (f : Ask → Bool) → count_of (λ (e : Entry). f e.ask) placed + count_of f left ≡ count_of f w
   -- (e) an entry's number is its turn: each has the smallest start beside those of lower numbers, and after the first phase they go by age
-  pub numbered : (z : Entry) (k : ℕ) → k < length placed → place s.period (take k placed) (get_or placed k z).ask ≡ At (get_or placed k z).start
+  pub numbered : (z : Entry) (k : ℕ) → k < length placed → place s.period (take k placed) (get_or placed k z).ask ≡ Some (get_or placed k z).start
   pub by_age : Sublistᴰ (map ask_of (drop (length (oldest s.guarantee 8 w)) placed)) w
   -- and each is open
   pub all_open : All (λ (e : Entry). e.status ≡ Open) placed

@@ -1,10 +1,8 @@
 -- When an exchange fits beside those placed, and its place.
-use Rattle.std.specs.Prelude.{ℕ, zero, suc, Bool, true, ◌&&◌, List, [], ◌∷◌, leb}
+use Rattle.std.specs.Prelude.{ℕ, zero, suc, Bool, true, ◌&&◌, List, [], ◌∷◌, leb, Option, Some, None}
 use Rattle.lists.specs.Lists.{pick}
 use Rattle.planner_rules.specs.declared.request.Ask.{Ask}
 use Rattle.planner_rules.specs.declared.entry.Entry.{Entry}
-use Rattle.planner_rules.specs.declared.plan.Place.{Place}
-use Rattle.planner_rules.specs.declared.plan.Place.TheVariants.{At, Nowhere}
 use Rattle.planner_rules.specs.Exchange.{entry_at, spans, clear}
 
 -- clear of all placed
@@ -17,12 +15,12 @@ unfoldable pub fits : ℕ → List Entry → Entry → Bool
 fits L es d = leb (spans d).hi L && clear_of d es
 
 -- the first of the n numbers from t on that passes
-unfoldable pub first : (ℕ → Bool) → ℕ → ℕ → Place
-first f zero t = Nowhere
+unfoldable pub first : (ℕ → Bool) → ℕ → ℕ → Option ℕ
+first f zero t = None
 first f (suc n) t =
     let later = first f n (suc t) in
-    pick (f t) (At t) later
+    pick (f t) (Some t) later
 
 -- its place is the smallest such start
-unfoldable pub place : ℕ → List Entry → Ask → Place
+unfoldable pub place : ℕ → List Entry → Ask → Option ℕ
 place L es a = first (λ t. fits L es (entry_at a t)) (suc L) 0

@@ -1,12 +1,10 @@
 -- The plan in two phases, and the waiting list after it.
-use Rattle.std.specs.Prelude.{ℕ, zero, suc, Bool, List, [], ◌∷◌, ◌++◌, eqb, ltb, length, take, set, replicate}
+use Rattle.std.specs.Prelude.{ℕ, zero, suc, Bool, List, [], ◌∷◌, ◌++◌, eqb, ltb, length, take, set, replicate, Option, Some, None}
 use Rattle.lists.specs.Lists.{pick, count_of, over}
 use Rattle.planner_rules.specs.declared.request.Ask.{Ask}
 use Rattle.planner_rules.specs.declared.request.Asks.{Asks}
 use Rattle.planner_rules.specs.declared.entry.Entry.{Entry}
 use Rattle.planner_rules.specs.declared.setup.Setup.{Setup}
-use Rattle.planner_rules.specs.declared.plan.Place.{Place}
-use Rattle.planner_rules.specs.declared.plan.Place.TheVariants.{At, Nowhere}
 use Rattle.planner_rules.specs.declared.plan.Planned.{Planned}
 use Rattle.planner_rules.specs.Exchange.{entry_at}
 use Rattle.planner_rules.specs.Fits.{place}
@@ -28,8 +26,8 @@ pub record Board : Type 0 where
   pub waiting : List Ask
 
 -- the place of a request, if its unit has not reached the limit
-unfoldable pub tried : ℕ → ℕ → List Entry → Ask → Place
-tried L limit es a = pick (ltb (taken a.request.unit es) limit) (place L es a) Nowhere
+unfoldable pub tried : ℕ → ℕ → List Entry → Ask → Option ℕ
+tried L limit es a = pick (ltb (taken a.request.unit es) limit) (place L es a) None
 
 -- a request that stays before those left
 abbrev pub stays : Ask → Board → Board
@@ -39,7 +37,7 @@ stays a b = record { placed = b.placed; waiting = a ∷ b.waiting }
 unfoldable pub pass : ℕ → List ℕ → List Entry → List Ask → Board
 pass L limits es [] = record { placed = es; waiting = [] }
 pass L limits es (a ∷ w) =
-    elim (tried L (share limits a.request.unit) es a) [ At t ↦ pass L limits (es ++ (entry_at a t ∷ [])) w | Nowhere ↦ stays a (pass L limits es w) ]
+    elim (tried L (share limits a.request.unit) es a) [ Some t ↦ pass L limits (es ++ (entry_at a t ∷ [])) w | None ↦ stays a (pass L limits es w) ]
 
 abbrev pub pass_over : ℕ → List ℕ → Board → Board
 pass_over L limits b = pass L limits b.placed b.waiting

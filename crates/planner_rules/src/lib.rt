@@ -8,6 +8,6 @@ mod request;
 mod setup;
 
 pub use entry::{Entry, Status};
-pub use plan::{Place, Planned};
+pub use plan::Planned;
 pub use request::{Ask, Asks, Request};
 pub use setup::Setup;

@@ -1,13 +1,6 @@
-// What a search and a plan answer.
+// What a plan answers.
 use crate::entry::Entry;
 use crate::request::Ask;
-
-// Where a request goes.
-#[derive(Clone, Copy)]
-pub enum Place {
-    At(u16),
-    Nowhere,
-}
 
 // What is placed, in the order placed, and what still waits, the oldest first.
 #[derive(Clone, Copy)]

@@ -36,19 +36,10 @@ pub(crate) fn number_at(s: &[u8], at: usize, from: usize, k: usize) -> u64
     ensures { (result ≡ number_at s.now (at + from) k) × (result < 256 ^ k) }
 {
     let mut n: u64 = 0;
-    let mut i: usize = 0;
-    while i < k {
-        n = n * 256 + wide(byte_at(s, at, from + i));
-        i += 1;
+    for i in 0..k {
+        n = n * 256 + u64::from(byte_at(s, at, from + i));
     }
     n
-}
-
-// A byte among the numbers of 64 bits.
-fn wide(b: u8) -> u64
-    ensures { (result ≡ b) × (result < 256) }
-{
-    b as u64
 }
 
 // What stands at a place.

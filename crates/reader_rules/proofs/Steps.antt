@@ -52,7 +52,8 @@ module _ (s : List ℕ) (at : ℕ) {k b n : ℕ} where
           let ef : body_length kind ≡ body_length k = ap body_length ek in
           let h = ltb-true at (length s) x in
           let u = eqb-false (body_length kind) 0 (and_off (ltb at (length s)) (eqb (body_length kind) 0) x (p.off 16)) in
-          let l = ltb-false (length s - (at + 1)) (body_length kind) (and_off (ltb at (length s)) (ltb (length s - (at + 1)) (body_length kind)) x (p.off 17)) in
+          let l = ltb-false (length s - (at + 1)) (body_length kind) (and_off (ltb at (length s)) (ltb (length s - (at + 1)) (body_length kind)) x
+          (p.off 17)) in
           record { kind = cc; known = λ z. u (ef ∙ z); body = omega arith; next = omega arith; inside = omega arith }
 
   pub whole_fits : record_at s at ≡ Whole k b n → Fits s at k b n

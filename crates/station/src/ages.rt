@@ -2,9 +2,8 @@
 ghost use Rattle.std.specs.Prelude.{◌≡◌};
 ghost use Rattle.station_rules.specs.State.{age_after, value_after, older, targets_older};
 
-use crate::targets::{with_ac, with_id};
-use numbers::live;
-use station_rules::{Target, Targets, Value};
+use crate::targets::held;
+use station_rules::{Heard, Target, Targets};
 
 // An age after one plan more.
 fn age_after(age: u16) -> u16
@@ -17,41 +16,33 @@ fn age_after(age: u16) -> u16
 }
 
 // A value after one plan more; one never heard has no age.
-fn value_after(v: Value) -> Value
+fn value_after(v: Option<Heard>) -> Option<Heard>
     ensures { result ≡ value_after v }
 {
     match v {
-        Value::Never => Value::Never,
-        Value::Heard { value, age } => {
-            let next = age_after(age);
-            Value::Heard { value, age: next }
-        }
+        None => None,
+        Some(h) => Some(Heard {
+            value: h.value,
+            age: age_after(h.age),
+        }),
     }
 }
 
 // A target after one plan more.
-fn older(x: Target) -> Target
-    ensures { result ≡ older x }
+fn older(x: &mut Target)
+    ensures { x.new ≡ older x.old }
 {
-    let ac = x.ac;
-    let id = x.id;
-    let y = with_id(value_after(id), x);
-    with_ac(value_after(ac), y)
+    x.ac = value_after(x.ac);
+    x.id = value_after(x.id);
 }
 
 // The targets after one plan more.
-pub(crate) fn all_older(t: Targets) -> Targets
-    ensures { result ≡ targets_older t }
+pub(crate) fn all_older(t: &mut Targets)
+    ensures { t.new ≡ targets_older t.old }
 {
-    let n = live(t.n, 64);
-    let mut out = t;
-    let mut i: usize = 0;
-    while i < n {
-        let x = out.list[i];
-        let y = older(x);
-        out.list[i] = y;
-        i += 1;
+    let n = held(t).len();
+    for x in t.list[..n].iter_mut() {
+        older(x);
     }
-    out.n = n;
-    out
+    t.n = n;
 }

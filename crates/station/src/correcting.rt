@@ -1,47 +1,11 @@
 // The correction of a reply, on trial in a buffer of its own: the caller's is written when the format is the expected one.
 ghost use Rattle.std.specs.Prelude.{◌≡◌, ◌<◌, true, length};
-ghost use Rattle.parity_rules.specs.Answers.{buffers, fix_number, flips_of};
+ghost use Rattle.parity_rules.specs.Answers.{buffers, fix_said};
 ghost use Rattle.parity_rules.specs.Correction.{sized};
 ghost use Rattle.frames_rules.specs.Reading.{format_of};
 ghost use Rattle.station_rules.specs.Replies.{value_in, corrected_as};
-ghost use Rattle.station.specs.Trials.{as_correction};
 
-use parity::Fix;
-
-// The number that a correction is answered, and its flips.
-#[derive(Clone, Copy)]
-pub struct Corrected {
-    pub number: u8,
-    pub flips: u32,
-}
-
-// The number of a correction.
-fn number(f: Fix) -> u8
-    ensures { result ≡ fix_number f }
-{
-    match f {
-        Fix::Flips(_) => 0,
-        Fix::Length => 1,
-        Fix::Range => 2,
-        Fix::Marks => 11,
-        Fix::NoMatch => 12,
-        Fix::Doubt => 13,
-    }
-}
-
-// The flips of a correction.
-fn flips(f: Fix) -> u32
-    ensures { result ≡ flips_of f }
-{
-    match f {
-        Fix::Flips(n) => n,
-        Fix::Length => 0,
-        Fix::Range => 0,
-        Fix::Marks => 0,
-        Fix::NoMatch => 0,
-        Fix::Doubt => 0,
-    }
-}
+use refusals::Refusal;
 
 // The format of a message, its bits 1 to 5.
 fn format_of(m: &[u8]) -> u8
@@ -70,42 +34,17 @@ fn on_trial(
     format: u8,
     out: &mut [u8],
     places: &mut [u8],
-) -> Corrected
+) -> Result<u32, Refusal>
     requires { 3 < length out.old }
-    ensures { as_correction result (buffers out.new places.new)
+    ensures { fix_said result (buffers out.new places.new)
         ≡ corrected_as format msg.now marks.now address limit
         (buffers out.old places.old) (buffers out.new places.new) }
 {
-    let f = parity::correct(msg, marks, address, limit, out, places);
-    let n = number(f);
-    if n != 0 {
-        return Corrected {
-            number: n,
-            flips: 0,
-        };
-    }
+    let flips = parity::correct(msg, marks, address, limit, out, places)?;
     if format_of(out) != format {
-        return Corrected {
-            number: 14,
-            flips: 0,
-        };
+        return Err(Refusal::Format);
     }
-    Corrected {
-        number: 0,
-        flips: flips(f),
-    }
-}
-
-// Copies a buffer.
-fn copy(from: &[u8], out: &mut [u8])
-    requires { length from.now ≡ length out.old }
-    ensures { out.new ≡ from.now }
-{
-    let mut i: usize = 0;
-    while i < from.len() {
-        out[i] = from[i];
-        i += 1;
-    }
+    Ok(flips)
 }
 
 // The correction of a message that must have the expected format. Nothing is written but what is taken.
@@ -117,9 +56,9 @@ pub(crate) fn correct_as(
     format: u8,
     out: &mut [u8],
     places: &mut [u8],
-) -> Corrected
+) -> Result<u32, Refusal>
     requires { sized (length msg.now) (length marks.now) (length out.old) (length places.old) ≡ true }
-    ensures { as_correction result (buffers out.new places.new)
+    ensures { fix_said result (buffers out.new places.new)
         ≡ corrected_as format msg.now marks.now address limit
         (buffers out.old places.old) (buffers out.old places.old) }
 {
@@ -135,11 +74,11 @@ pub(crate) fn correct_as(
         &mut corrected[..n],
         &mut flipped[..n],
     );
-    let is_refused = r.number != 0;
+    let is_refused = r.is_err();
     if is_refused {
         return r;
     }
-    copy(&corrected[..n], out);
-    copy(&flipped[..n], places);
+    out.copy_from_slice(&corrected[..n]);
+    places.copy_from_slice(&flipped[..n]);
     r
 }

@@ -18,4 +18,4 @@ pub use entries::entry_count;
 pub use planning::plan_period;
 pub use replies::take_reply;
 pub use setting::{before_setup, set_up};
-pub use station_rules::{Outcome, Plan, Reply, Report, Station, Target, Targets, Value, Waiting};
+pub use station_rules::{Heard, Plan, Reported, Station, Taken, Target, Targets, Waiting};

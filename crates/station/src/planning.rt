@@ -6,13 +6,14 @@ ghost use Rattle.station_rules.specs.Planning.{ask_for, request_of, asks_as, nex
 use crate::ages::all_older;
 use crate::entries::no_ask;
 use crate::targets::target_at;
+use crate::waiting::requests;
 use numbers::live;
 use planner_rules::{Ask, Asks, Request};
 use station_rules::{Plan, Station, Targets, Waiting};
 
 // A request with near and far of its target as they are now.
-fn ask_for(t: Targets, q: Request) -> Ask
-    ensures { result ≡ ask_for t q }
+fn ask_for(t: &Targets, q: Request) -> Ask
+    ensures { result ≡ ask_for t.now q }
 {
     let x = target_at(t, q.address);
     Ask {
@@ -23,64 +24,40 @@ fn ask_for(t: Targets, q: Request) -> Ask
 }
 
 // What the planner is asked: all that waits, the oldest first.
-fn join(t: Targets, w: Waiting) -> Asks
-    ensures { result ≡ asks_as (map (ask_for t) (requests_of w)) }
+fn join(t: &Targets, w: &Waiting) -> Asks
+    ensures { result ≡ asks_as (map (ask_for t.now) (requests_of w.now)) }
 {
-    let n = live(w.n, 128);
-    let none = no_ask();
-    let list = [none; 128];
-    let mut out = Asks { list: list, n: 0 };
-    let mut i: usize = 0;
-    while i < n {
-        let x = w.list[i];
-        let y = ask_for(t, x);
-        out.list[i] = y;
-        i += 1;
+    let n = requests(w).len();
+    let mut list = [no_ask(); 128];
+    for i in 0..n {
+        list[i] = ask_for(t, w.list[i]);
     }
-    out.n = n;
-    out
+    Asks { list, n }
 }
 
 // The requests of the first m of the asks are what waits.
-fn put_back(w: Waiting, m: usize, asks: [Ask; 128]) -> Waiting
-    ensures { result ≡ waiting_as (map request_of (take m asks)) w }
+fn put_back(w: &mut Waiting, m: usize, asks: [Ask; 128])
+    ensures { w.new ≡ waiting_as (map request_of (take m asks)) w.old }
 {
     let n = live(m, 128);
-    let mut out = w;
-    let mut i: usize = 0;
-    while i < n {
-        let a = asks[i];
-        let q = a.request;
-        out.list[i] = q;
-        i += 1;
+    for i in 0..n {
+        w.list[i] = asks[i].request;
     }
-    out.n = n;
-    out
+    w.n = n;
 }
 
 // A new plan replaces the old one; placed requests leave the waiting list, and every age present is one more.
-pub fn plan_period(s: Station, tag: u32) -> Station
-    ensures { result ≡ next_plan s tag }
+pub fn plan_period(s: &mut Station, tag: u32)
+    ensures { s.new ≡ next_plan s.old tag }
 {
-    let t = s.targets;
-    let w = s.waiting;
-    let p = s.plan;
-    let h = s.setup;
-    let old = p.list;
-    let b = planner::make_plan(h, join(t, w), old);
-    let es = b.entries;
-    let left = b.asks;
-    let next = Plan {
-        list: es,
+    let old = s.plan.list;
+    let b = planner::make_plan(s.setup, join(&s.targets, &s.waiting), old);
+    let list = b.entries;
+    s.plan = Plan {
+        list,
         n: b.placed,
-        tag: tag,
+        tag,
     };
-    let still = put_back(w, b.waiting, left);
-    let aged = all_older(t);
-    Station {
-        targets: aged,
-        waiting: still,
-        plan: next,
-        setup: h,
-    }
+    put_back(&mut s.waiting, b.waiting, b.asks);
+    all_older(&mut s.targets);
 }

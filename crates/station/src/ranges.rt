@@ -12,10 +12,7 @@ pub(crate) fn target_ranged(address: u32, near: u16, far: u16, reach: u16) -> bo
     if !frames::is_address(address) {
         return false;
     }
-    if far < near {
-        return false;
-    }
-    far <= reach
+    near <= far && far <= reach
 }
 
 // A number of 8 bits among those of 32.
@@ -29,13 +26,14 @@ pub(crate) fn byte(x: u8) -> u32
 pub(crate) fn request_ranged(q: Request) -> bool
     ensures { result ≡ request_ranged q }
 {
-    if 7 < q.unit {
-        return false;
-    }
-    let uf = byte(q.uf);
-    let pc = byte(q.pc);
-    let rr = byte(q.rr);
-    let di = byte(q.di);
-    let sd = wide(q.sd);
-    frames::selective_ranged(uf, pc, rr, di, sd, q.ma, q.address)
+    q.unit <= 7
+        && frames::selective_ranged(
+            byte(q.uf),
+            byte(q.pc),
+            byte(q.rr),
+            byte(q.di),
+            wide(q.sd),
+            q.ma,
+            q.address,
+        )
 }

@@ -6,94 +6,75 @@ ghost use Rattle.parity_rules.specs.Correction.{sized};
 ghost use Rattle.station_rules.specs.State.{entries_of};
 ghost use Rattle.station_rules.specs.Replies.{expected, holds_id, start_of, in_window, said_in, targets_heard, entry_numbered};
 ghost use Rattle.station_rules.specs.Replies.{received, open_checks, told, settled, replied};
-ghost use Rattle.station.specs.Trials.{refusal};
+ghost use Rattle.station_rules.specs.Answers.{reply_as};
+ghost use Rattle.refusals.specs.Refusals.{number_given};
 
 use crate::correcting::{correct_as, value_in};
-use crate::entries::{answered, entry_count, entry_of, is_open};
+use crate::entries::{answer, entry_count, entry_of, is_open};
 use crate::ranges::byte;
 use crate::targets;
 use crate::windows::{delay, in_window, start_of};
-use frames::Draws;
 use planner_rules::{Entry, Request};
-use station_rules::{Reply, Station, Target, Targets, Value};
+use refusals::Refusal;
+use station_rules::{Heard, Station, Taken, Target, Targets};
 
 // The format of the reply that a request expects.
 fn expected(q: Request) -> u8
     ensures { result ≡ expected q }
 {
-    let d = frames::drawn(byte(q.uf), byte(q.rr));
-    match d {
-        Draws::Format(f) => f,
-        Draws::Nothing => 0,
-    }
+    frames::drawn(byte(q.uf), byte(q.rr)).unwrap_or(0)
 }
 
 // Whether a format holds ID; it is AC else.
 fn holds_id(f: u8) -> bool
     ensures { result ≡ holds_id f }
 {
-    if f == 5 {
-        return true;
-    }
-    f == 21
+    f == 5 || f == 21
 }
 
-// A target that said a value just now, in a reply of this format.
-fn said_in(f: u8, v: u16, x: Target) -> Target
-    ensures { result ≡ said_in f v x }
+// A target says a value just now, in a reply of this format.
+fn say(x: &mut Target, f: u8, v: u16)
+    ensures { x.new ≡ said_in f v x.old }
 {
-    let heard = Value::Heard { value: v, age: 0 };
+    let heard = Some(Heard { value: v, age: 0 });
     if holds_id(f) {
-        return targets::with_id(heard, x);
+        x.id = heard;
+    } else {
+        x.ac = heard;
     }
-    targets::with_ac(heard, x)
 }
 
-// The targets after the one of the request said a value.
-fn hear(t: Targets, q: Request, v: u16) -> Targets
-    ensures { result ≡ targets_heard q v t }
+// The target of the request says a value, if it is held.
+fn hear(t: &mut Targets, q: Request, v: u16)
+    ensures { t.new ≡ targets_heard q v t.old }
 {
-    if !targets::in_list(t, q.address) {
-        return t;
-    }
-    let x = targets::target_at(t, q.address);
-    let y = said_in(expected(q), v, x);
-    targets::put(t, q.address, y)
-}
-
-// The number of a refused reply alone; the station is as it was.
-fn refused(number: u8, s: Station) -> Reply
-    ensures { result ≡ refusal number s }
-{
-    Reply {
-        number: number,
-        flips: 0,
-        delay: 0,
-        station: s,
+    if targets::in_list(t, q.address) {
+        let mut x = targets::target_at(t, q.address);
+        say(&mut x, expected(q), v);
+        targets::put(t, q.address, x);
     }
 }
 
 // A reply that has passed the checks before the correction, by the correction.
 fn settle(
-    s: Station,
+    s: &mut Station,
     entry: usize,
     tag: u32,
     msg: &[u8],
     marks: &[u8],
     out: &mut [u8],
     places: &mut [u8],
-) -> Reply
+) -> Result<Taken, Refusal>
     requires places_value { sized (length msg.now) (length marks.now) (length out.old) (length places.old) ≡ true }
-    requires in_bounds { entry < length (entries_of s.plan) }
-    requires tag_value { in_window (entry_numbered entry s) (start_of tag s.plan.tag) ≡ true }
-    ensures { told result (buffers out.new places.new)
-        ≡ settled s (received entry tag msg.now marks.now out.old places.old) }
+    requires in_bounds { entry < length (entries_of s.old.plan) }
+    requires tag_value { in_window (entry_numbered entry s.old) (start_of tag s.old.plan.tag) ≡ true }
+    ensures { told (reply_as result s.new) (buffers out.new places.new)
+        ≡ settled s.old (received entry tag msg.now marks.now out.old places.old) }
 {
-    let p = s.plan;
-    let e = entry_of(p, entry);
-    let a = e.ask;
-    let q = a.request;
-    let f = correct_as(
+    let e = entry_of(&s.plan, entry);
+    let q = e.ask.request;
+    let delay = delay(e, start_of(tag, s.plan.tag));
+    let flips = correct_as(
         msg,
         marks,
         q.address,
@@ -101,64 +82,51 @@ fn settle(
         expected(q),
         out,
         places,
-    );
-    if f.number != 0 {
-        return refused(f.number, s);
-    }
-    let v = value_in(out);
-    let mut next = s;
-    next.targets = hear(s.targets, q, v);
-    next.plan = answered(p, entry);
-    Reply {
-        number: 0,
-        flips: f.flips,
-        delay: delay(e, start_of(tag, p.tag)),
-        station: next,
-    }
+    )?;
+    hear(&mut s.targets, q, value_in(out));
+    answer(&mut s.plan, entry);
+    Ok(Taken { flips, delay })
 }
 
-// A reply by its entry: 8 for one answered or withdrawn, 9 for another length than expected, 10 outside its window, else 0.
-fn judge_entry(e: Entry, start: u32, n: usize) -> u8
-    ensures { result ≡ given (open_checks e start n) }
+// A reply by its entry: refused for one answered or withdrawn, for another length than expected, and outside its window.
+fn judge_entry(e: Entry, start: u32, n: usize) -> Result<(), Refusal>
+    ensures { number_given result ≡ given (open_checks e start n) }
 {
-    let m = e.status;
-    if !is_open(m) {
-        return 8;
+    if !is_open(e.status) {
+        return Err(Refusal::Closed);
     }
-    let a = e.ask;
-    if n != frames::length_of(byte(expected(a.request))) {
-        return 9;
+    if n != frames::length_of(byte(expected(e.ask.request))) {
+        return Err(Refusal::OtherLength);
     }
     if !in_window(e, start) {
-        return 10;
+        return Err(Refusal::Outside);
     }
-    0
+    Ok(())
 }
 
-// A reply: 1 for the lengths, 7 for no such entry; then by its entry, and by the correction.
+// A reply: refused for the lengths, for no such entry; then by its entry, and by the correction.
 pub fn take_reply(
-    s: Station,
+    s: &mut Station,
     entry: usize,
     tag: u32,
     msg: &[u8],
     marks: &[u8],
     out: &mut [u8],
     places: &mut [u8],
-) -> Reply
-    ensures { told result (buffers out.new places.new)
-        ≡ replied s (received entry tag msg.now marks.now out.old places.old) }
+) -> Result<Taken, Refusal>
+    ensures { told (reply_as result s.new) (buffers out.new places.new)
+        ≡ replied s.old (received entry tag msg.now marks.now out.old places.old) }
 {
     if !parity::sized(msg.len(), marks.len(), out.len(), places.len()) {
-        return refused(1, s);
+        return Err(Refusal::Length);
     }
-    let p = s.plan;
-    if entry_count(p) <= entry {
-        return refused(7, s);
+    if entry_count(&s.plan) <= entry {
+        return Err(Refusal::NoEntry);
     }
-    let e = entry_of(p, entry);
-    let k = judge_entry(e, start_of(tag, p.tag), msg.len());
-    if k != 0 {
-        return refused(k, s);
-    }
+    judge_entry(
+        entry_of(&s.plan, entry),
+        start_of(tag, s.plan.tag),
+        msg.len(),
+    )?;
     settle(s, entry, tag, msg, marks, out, places)
 }

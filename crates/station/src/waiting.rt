@@ -24,61 +24,50 @@ pub(crate) fn no_request() -> Request
     }
 }
 
-// How many requests of the unit wait.
-fn count_of(w: Waiting, unit: u8) -> usize
-    ensures { result ≡ count_of (is_of unit) (requests_of w) }
+// The requests that wait, the oldest first.
+pub(crate) fn requests(w: &Waiting) -> &[Request]
+    ensures value { result.now ≡ requests_of w.now }
+    ensures slots { length w.now.list ≡ 128 }
 {
-    let n = live(w.n, 128);
-    let mut k: usize = 0;
-    let mut i: usize = 0;
-    while i < n {
-        let q = w.list[i];
-        if q.unit == unit {
-            k += 1;
-        }
-        i += 1;
-    }
-    k
+    &w.list[..live(w.n, w.list[..].len())]
+}
+
+// How many requests of the unit wait.
+fn count_of(w: &Waiting, unit: u8) -> usize
+    ensures { result ≡ count_of (is_of unit) (requests_of w.now) }
+{
+    requests(w).iter().filter(|q| q.unit == unit).count()
 }
 
 // Whether 16 requests of the unit wait, or no slot is left.
-pub(crate) fn unit_full(w: Waiting, unit: u8) -> bool
-    ensures { result ≡ unit_full unit w }
+pub(crate) fn unit_full(w: &Waiting, unit: u8) -> bool
+    ensures { result ≡ unit_full unit w.now }
 {
-    if 16 <= count_of(w, unit) {
-        return true;
-    }
-    128 <= live(w.n, 128)
+    16 <= count_of(w, unit) || 128 <= requests(w).len()
 }
 
 // One request more, as the youngest.
-pub(crate) fn push(w: Waiting, q: Request) -> Waiting
-    requires { length (requests_of w) < 128 }
-    ensures { result ≡ waiting_with q w }
+pub(crate) fn push(w: &mut Waiting, q: Request)
+    requires { length (requests_of w.old) < 128 }
+    ensures { w.new ≡ waiting_with q w.old }
 {
-    let n = live(w.n, 128);
-    let mut out = w;
-    out.list[n] = q;
-    out.n = n + 1;
-    out
+    let n = requests(w).len();
+    w.list[n] = q;
+    w.n = n + 1;
 }
 
 // The requests for every other address, in their order.
-pub(crate) fn without(w: Waiting, address: u32) -> Waiting
-    ensures { result ≡ waiting_without address w }
+pub(crate) fn drop_all(w: &mut Waiting, address: u32)
+    ensures { w.new ≡ waiting_without address w.old }
 {
-    let n = live(w.n, 128);
-    let mut out = w;
-    let mut k: usize = 0;
-    let mut i: usize = 0;
-    while i < n {
-        let x = out.list[i];
-        if x.address != address {
-            out.list[k] = x;
+    let n = requests(w).len();
+    let mut k = 0;
+    for i in 0..n {
+        let q = w.list[i];
+        if q.address != address {
+            w.list[k] = q;
             k += 1;
         }
-        i += 1;
     }
-    out.n = k;
-    out
+    w.n = k;
 }

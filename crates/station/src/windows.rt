@@ -20,10 +20,8 @@ pub(crate) fn in_window(e: Entry, s: u32) -> bool
     ensures { result ≡ in_window e s }
 {
     let start = wide(e.start);
-    if s < start + Exchange::EARLIEST + wide(e.ask.near) {
-        return false;
-    }
-    s <= start + Exchange::LATEST + wide(e.ask.far)
+    start + Exchange::EARLIEST + wide(e.ask.near) <= s
+        && s <= start + Exchange::LATEST + wide(e.ask.far)
 }
 
 // up − down, with its sign.

@@ -7,6 +7,7 @@ use mathlib.Core.List.{List, [], ◌∷◌, ◌++◌, map}
 use mathlib.Core.Bool.{Bool, true, false, not, ◌&&◌, true≢false, false≢true}
 use lib.ListN.{get_or, set}
 use lib.Dec.{eqb, ltb}
+use Rattle.std.specs.Prelude.{Option, Some, None}
 use Rattle.lists.specs.Lists.{pick, filter}
 use Rattle.lists.proofs.Checks.{Passed, CameTo, was_refused, was_done, came_to}
 use Rattle.lists.proofs.Each.{image_set, image_at, image_through}
@@ -14,15 +15,13 @@ use Rattle.planner_rules.specs.declared.request.Ask.{Ask}
 use Rattle.planner_rules.specs.declared.entry.Status.TheVariants.{Answered}
 use Rattle.planner_rules.specs.declared.setup.Setup.{Setup}
 use Rattle.planner_rules.specs.Demand3.{ask_of}
-use Rattle.station_rules.specs.declared.state.Value.{Value}
-use Rattle.station_rules.specs.declared.state.Value.TheVariants.{Never, Heard}
+use Rattle.station_rules.specs.declared.state.Heard.{Heard}
 use Rattle.station_rules.specs.declared.state.Target.{Target}
 use Rattle.station_rules.specs.declared.state.Targets.{Targets}
 use Rattle.station_rules.specs.declared.state.Station.{Station}
-use Rattle.station_rules.specs.declared.state.Outcome.{Outcome}
-use Rattle.station_rules.specs.declared.state.Report.{Report}
+use Rattle.station_rules.specs.Answers.{Outcome, Report}
 use Rattle.station_rules.specs.State.{targets_of, targets_as, is_at, place_in, in_list, fresh, with_edges, with_ac, with_id, target_at, age_after, value_after}
-use Rattle.station_rules.specs.State.{older}
+use Rattle.station_rules.specs.State.{older, heard}
 use Rattle.station_rules.specs.State.{entries_of, withdrawn, with_status, no_ask, no_entry, emptied, before_setup}
 use Rattle.station_rules.specs.Calls.{refused, leaves, new_target_checks, with_new, held_checks, without, move_checks, with_moved, not_reported, report_held}
 use Rattle.station_rules.specs.Calls.{reported}
@@ -87,7 +86,7 @@ in_force_is (c ∷ cs) =
     effect_seen (after cs) c (λ s e. Force s (asks_after e f)) (in_force_is cs) (λ p. force_done (after cs) f (in_force_is cs) c)
 
 -- ---- values and ages
-abbrev pub value_of : Kind → Target → Value
+abbrev pub value_of : Kind → Target → Option Heard
 value_of AC t = t.ac
 value_of ID t = t.id
 
@@ -105,13 +104,13 @@ older_value ID t = refl
 
 older_shown : (x : Said) → value_after (shown x) ≡ shown (one_plan_more x)
 older_shown never = refl
-older_shown (said v n) = ap (Heard v) (aged n)
+older_shown (said v n) = ap (heard v) (aged n)
 
 -- what a reply says of the kind that it carries, and of the other
 said_value : (i : Kind) (f v : ℕ) (t : Target) → draws i (holds_id f) ≡ true → value_of i (said_in f v t) ≡ shown (said v 0)
 said_value i f v t e = go i (holds_id f) e
   where
-    go : (i : Kind) (b : Bool) → draws i b ≡ true → value_of i (pick b (with_id (Heard v 0) t) (with_ac (Heard v 0) t)) ≡ shown (said v 0)
+    go : (i : Kind) (b : Bool) → draws i b ≡ true → value_of i (pick b (with_id (heard v 0) t) (with_ac (heard v 0) t)) ≡ shown (said v 0)
     go ID true e = refl
     go ID false e = absurd (false≢true e)
     go AC true e = absurd (false≢true e)
@@ -120,7 +119,7 @@ said_value i f v t e = go i (holds_id f) e
 said_other : (i : Kind) (f v : ℕ) (t : Target) → draws i (holds_id f) ≡ false → value_of i (said_in f v t) ≡ value_of i t
 said_other i f v t e = go i (holds_id f) e
   where
-    go : (i : Kind) (b : Bool) → draws i b ≡ false → value_of i (pick b (with_id (Heard v 0) t) (with_ac (Heard v 0) t)) ≡ value_of i t
+    go : (i : Kind) (b : Bool) → draws i b ≡ false → value_of i (pick b (with_id (heard v 0) t) (with_ac (heard v 0) t)) ≡ value_of i t
     go ID true e = absurd (true≢false e)
     go ID false e = refl
     go AC true e = refl
@@ -275,7 +274,8 @@ both_kinds : (s : Station) (a : ℕ) (i : Kind) → report_of i (report_held s a
 both_kinds s a AC = refl
 both_kinds s a ID = refl
 
-pub report_is : (cs : List Call) (i : Kind) (a : ℕ) → (reported (after cs) a).number ≡ 0 → report_of i (reported (after cs) a) ≡ shown (last_said i a (events cs))
+pub report_is : (cs : List Call) (i : Kind) (a : ℕ) → (reported (after cs) a).number ≡ 0
+    → report_of i (reported (after cs) a) ≡ shown (last_said i a (events cs))
 unfolding reported
 report_is cs i a e = go (reported (after cs) a) e (came_to not_reported (report_held (after cs) a) (held_checks (after cs) a) refl)
   where
@@ -284,19 +284,19 @@ report_is cs i a e = go (reported (after cs) a) e (came_to not_reported (report_
     go r z (was_refused x m k g w) = absurd (m (sym (ap (λ (y : Report). y.number) w) ∙ z))
     go r z (was_done p g w) = ap (report_of i) w ∙ both_kinds (after cs) a i ∙ agree i a cs (not-false _ (p.off 4))
 
-abbrev was_heard : Value → Bool
-was_heard Never = false
-was_heard (Heard v n) = true
+abbrev was_heard : Option Heard → Bool
+was_heard None = false
+was_heard (Some h) = true
 
 -- never heard exactly if nothing was said since the target came
-pub never_heard : (cs : List Call) (i : Kind) (a : ℕ) → (reported (after cs) a).number ≡ 0 → report_of i (reported (after cs) a) ≡ Never
+pub never_heard : (cs : List Call) (i : Kind) (a : ℕ) → (reported (after cs) a).number ≡ 0 → report_of i (reported (after cs) a) ≡ None
     → last_said i a (events cs) ≡ never
 never_heard cs i a e n = go (last_said i a (events cs)) (sym (report_is cs i a e) ∙ n)
   where
-    go : (x : Said) → shown x ≡ Never → x ≡ never
+    go : (x : Said) → shown x ≡ None → x ≡ never
     go never p = refl
     go (said v k) p = absurd (true≢false (ap was_heard p))
 
 pub never_said : (cs : List Call) (i : Kind) (a : ℕ) → (reported (after cs) a).number ≡ 0 → last_said i a (events cs) ≡ never
-    → report_of i (reported (after cs) a) ≡ Never
+    → report_of i (reported (after cs) a) ≡ None
 never_said cs i a e n = report_is cs i a e ∙ ap shown n

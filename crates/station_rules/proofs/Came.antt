@@ -5,7 +5,7 @@ use Rattle.lists.specs.Checks.{checked, given, numbered}
 use Rattle.lists.proofs.Checks.{view, join, Passed, CameTo, was_refused, was_done, came_to, all, end}
 use Rattle.planner_rules.specs.Shares.{setup_checks}
 use Rattle.station_rules.specs.declared.state.Station.{Station}
-use Rattle.station_rules.specs.declared.state.Outcome.{Outcome}
+use Rattle.station_rules.specs.Answers.{Outcome}
 use Rattle.station_rules.specs.Calls.{refused, leaves, set_up, new_target_checks, new_target, held_checks, removed, move_checks, moved, request_checks}
 use Rattle.station_rules.specs.Calls.{requested}
 use Rattle.station_rules.specs.Calls.{not_reported, report_held, reported}

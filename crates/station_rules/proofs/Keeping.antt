@@ -27,16 +27,17 @@ use Rattle.planner_rules.specs.declared.setup.Setup.{Setup}
 use Rattle.planner_rules.specs.Demand3.{Proper}
 use Rattle.planner_rules.specs.Shares.{setup_number, shares_fit}
 use Rattle.planner_rules.proofs.Demand3.{demand3, left_each}
-use Rattle.station_rules.specs.declared.state.Value.TheVariants.{Heard}
 use Rattle.station_rules.specs.declared.state.Target.{Target}
 use Rattle.station_rules.specs.declared.state.Targets.{Targets}
 use Rattle.station_rules.specs.declared.state.Waiting.{Waiting}
 use Rattle.station_rules.specs.declared.state.Plan.{Plan}
 use Rattle.station_rules.specs.declared.state.Station.{Station}
-use Rattle.station_rules.specs.declared.state.Outcome.{Outcome}
-use Rattle.station_rules.specs.State.{targets_of, targets_as, targets_with, targets_put, is_at, place_in, in_list, fresh, with_edges, with_ac, with_id, target_at}
-use Rattle.station_rules.specs.State.{older}
-use Rattle.station_rules.specs.State.{targets_older, requests_of, waiting_as, waiting_with, is_of, entries_of, plan_as, status_withdrawn, withdrawn, with_status}
+use Rattle.station_rules.specs.Answers.{Outcome}
+use Rattle.station_rules.specs.State.{targets_of, targets_as, targets_with, targets_put, is_at, place_in}
+use Rattle.station_rules.specs.State.{in_list, fresh, with_edges, with_ac, with_id, target_at}
+use Rattle.station_rules.specs.State.{older, heard}
+use Rattle.station_rules.specs.State.{targets_older, requests_of, waiting_as, waiting_with, is_of}
+use Rattle.station_rules.specs.State.{entries_of, plan_as, status_withdrawn, withdrawn, with_status}
 use Rattle.station_rules.specs.State.{no_entry, with_targets, emptied, before_setup}
 use Rattle.station_rules.specs.Calls.{refused, leaves, target_ranged, request_ranged, unit_full, new_target_checks, with_new, held_checks, without}
 use Rattle.station_rules.specs.Calls.{move_checks, with_moved, request_checks, with_request}
@@ -129,14 +130,14 @@ put_reaches R t u b y p e h = subst (λ (v : List Target). All (InReach R) v) (s
 pub said_address : (f v : ℕ) (t : Target) → (said_in f v t).address ≡ t.address
 said_address f v t = go (holds_id f)
   where
-    go : (b : Bool) → (pick b (with_id (Heard v 0) t) (with_ac (Heard v 0) t)).address ≡ t.address
+    go : (b : Bool) → (pick b (with_id (heard v 0) t) (with_ac (heard v 0) t)).address ≡ t.address
     go true = refl
     go false = refl
 
 said_reach : (R f v : ℕ) (t : Target) → InReach R t → InReach R (said_in f v t)
 said_reach R f v t h = go (holds_id f)
   where
-    go : (b : Bool) → InReach R (pick b (with_id (Heard v 0) t) (with_ac (Heard v 0) t))
+    go : (b : Bool) → InReach R (pick b (with_id (heard v 0) t) (with_ac (heard v 0) t))
     go true = h
     go false = h
 
@@ -194,7 +195,8 @@ left_waits s tag h =
     (all_image request_of (Was s) (Waits s.targets) (λ a k. k) (board_for s).waiting (left_each s.setup h.shares (asked s) (Was s) (were s h)))
 
 -- a plan leaves no unit with more than it had waiting
-left_fewer : (s : Station) (tag : ℕ) → Kept s → (u : ℕ) → count_of (is_of u) (requests_of (next_plan s tag).waiting) ≤ count_of (is_of u) (requests_of s.waiting)
+left_fewer : (s : Station) (tag : ℕ) → Kept s → (u : ℕ)
+    → count_of (is_of u) (requests_of (next_plan s tag).waiting) ≤ count_of (is_of u) (requests_of s.waiting)
 unfolding board_for asked
 left_fewer s tag h u =
     let n = (demand3 s.setup h.shares (asked s) (proper s h)).none_lost (λ (a : Ask). is_of u a.request) in

@@ -7,11 +7,11 @@ use mathlib.Core.Bool.{true}
 use mathlib.Core.Logic.{⊎_elim}
 use mathlib.Core.List.{map}
 use mathlib.Core.Path.{◌≡◌, refl, sym, ap, subst, ◌∙◌}
+use Rattle.std.specs.Prelude.{Ok}
 use Rattle.lists.specs.Lists.{Among}
 use Rattle.lists.specs.Checks.{given}
 use Rattle.lists.proofs.Checks.{Passed, passed_first, passed_last, passed_both, zero_passed, given_first, given_last, given_part}
 use Rattle.lists.proofs.Checks.{all, past, end, clear, not_off}
-use Rattle.parity_rules.specs.declared.answers.Fix.TheVariants.{Flips}
 use Rattle.parity_rules.specs.Answers.{Buffers, Correction, fix_said, not_corrected}
 use Rattle.parity_rules.specs.Correction.{sized, mark_checks, correction_checks, correction}
 use Rattle.parity_rules.specs.Messages.{AreBytes}
@@ -20,7 +20,7 @@ use Rattle.parity_rules.proofs.Outcomes as parity
 use Rattle.parity_rules.proofs.Sizes.{Small, outcome_small}
 use Rattle.frames_rules.specs.Reading.{format_of}
 use Rattle.station_rules.specs.declared.state.Station.{Station}
-use Rattle.station_rules.specs.declared.state.Reply.{Reply}
+use Rattle.station_rules.specs.Answers.{Reply}
 use Rattle.station_rules.specs.Replies.{expected, Received, request_for, matches_for, open_checks, entry_checks, format_checks, corrected_checks, settle_checks}
 use Rattle.station_rules.specs.Replies.{corrected, Replied, told, taken_as, replied}
 use Rattle.station_rules.specs.History.{reply}
@@ -28,7 +28,7 @@ use Rattle.station_rules.specs.Demands.{Believed}
 use Rattle.station_rules.proofs.Came.{given_by, passed_is, taken}
 
 module _ (s : Station) (r : Received) (p : Passed (settle_checks s r)) where
-  is_correction : fix_said (Flips (corrected s r).flips) (corrected s r).buffers ≡ correction r.message r.marks (request_for s r).address
+  is_correction : fix_said (Ok (corrected s r).flips) (corrected s r).buffers ≡ correction r.message r.marks (request_for s r).address
       s.setup.limit r.buffers
   unfolding correction corrected_checks
   is_correction =

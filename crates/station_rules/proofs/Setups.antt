@@ -7,7 +7,7 @@ use Rattle.lists.specs.Lists.{pick}
 use Rattle.lists.proofs.Checks.{CameTo, was_refused, was_done}
 use Rattle.planner_rules.specs.declared.setup.Setup.{Setup}
 use Rattle.station_rules.specs.declared.state.Station.{Station}
-use Rattle.station_rules.specs.declared.state.Outcome.{Outcome}
+use Rattle.station_rules.specs.Answers.{Outcome}
 use Rattle.station_rules.specs.State.{emptied}
 use Rattle.station_rules.specs.Calls.{leaves, refused, without}
 use Rattle.station_rules.specs.Planning.{next_plan}

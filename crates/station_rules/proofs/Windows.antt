@@ -12,11 +12,11 @@ use mathlib.Core.Bool.{Bool, true, false}
 use mathlib.Core.Logic.{◌⊎◌, inl, inr}
 use lib.Dec.{leb, ltb, eqb}
 use borrow.Author.Tests.{ltb-true, ltb-false}
+use Rattle.std.specs.Prelude.{Some}
 use Rattle.lists.specs.Lists.{pick}
 use Rattle.lists.proofs.Tests.{and_left, and_right}
 use Rattle.lists.proofs.Signed.{minus, sub_nothing, same_difference, difference_same, difference_le}
 use Rattle.frames_rules.specs.Formats.{surveillance, length_of}
-use Rattle.frames_rules.specs.declared.answers.Draws.TheVariants.{Format}
 use Rattle.frames_rules.specs.Shared.{short_reply, drawn}
 use Rattle.frames_rules.proofs.Ranges.{surveillance_is}
 use Rattle.planner_rules.specs.declared.entry.Entry.{Entry}
@@ -86,7 +86,7 @@ unfolding reply_for expected drawn
 as_long_as_drawn q h r = rw (h, le-leb q.rr 31 r) (go (leb 16 q.rr))
   where
     go : (b : Bool)
-        → pick b reply_long reply_short ≡ pick (eqb (length_of (format_in (pick b (Format (short_reply q.uf + 16)) (Format (short_reply q.uf))))) 14)
+        → pick b reply_long reply_short ≡ pick (eqb (length_of (format_in (pick b (Some (short_reply q.uf + 16)) (Some (short_reply q.uf))))) 14)
         reply_long reply_short
     go true = rw (each_format q.uf h).long
     go false = rw (each_format q.uf h).short

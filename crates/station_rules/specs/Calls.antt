@@ -1,17 +1,15 @@
 -- The calls on targets and requests: the checks of each in their order, and the station afterwards; planning and replies have files of their own.
-use Rattle.std.specs.Prelude.{ℕ, Bool, not, ◌&&◌, ◌||◌, List, [], ◌∷◌, length, leb}
+use Rattle.std.specs.Prelude.{ℕ, Bool, not, ◌&&◌, ◌||◌, List, [], ◌∷◌, length, leb, None}
 use Rattle.lists.specs.Lists.{count_of}
 use Rattle.lists.specs.Checks.{Check, check, checked}
 use Rattle.planner_rules.specs.declared.request.Request.{Request}
 use Rattle.planner_rules.specs.declared.setup.Setup.{Setup}
 use Rattle.planner_rules.specs.Shares.{setup_checks}
 use Rattle.frames_rules.specs.Building.{is_address, selective_ranged}
-use Rattle.station_rules.specs.declared.state.Value.TheVariants.{Never}
 use Rattle.station_rules.specs.declared.state.Targets.{Targets}
 use Rattle.station_rules.specs.declared.state.Waiting.{Waiting}
 use Rattle.station_rules.specs.declared.state.Station.{Station}
-use Rattle.station_rules.specs.declared.state.Outcome.{Outcome}
-use Rattle.station_rules.specs.declared.state.Report.{Report}
+use Rattle.station_rules.specs.Answers.{Outcome, Report}
 use Rattle.station_rules.specs.State.{targets_of, in_list, fresh, with_edges, target_at, targets_with, targets_without, targets_put, requests_of, is_of}
 use Rattle.station_rules.specs.State.{waiting_with}
 use Rattle.station_rules.specs.State.{waiting_without, plan_withdrawn, with_targets, with_waiting, with_plan, emptied}
@@ -104,7 +102,7 @@ requested s q = checked (request_checks (unit_full q.unit s.waiting) s q) (refus
 
 -- ---- report: what the target said, AC and ID each with its age or never heard
 abbrev pub not_reported : Check → Report
-not_reported c = record { number = c.number; ac = Never; id = Never }
+not_reported c = record { number = c.number; ac = None; id = None }
 
 abbrev pub report_held : Station → ℕ → Report
 report_held s a = record { number = 0; ac = (target_at a s.targets).ac; id = (target_at a s.targets).id }

@@ -5,10 +5,10 @@ use Rattle.planner_rules.specs.declared.request.Request.{Request}
 use Rattle.planner_rules.specs.declared.setup.Setup.{Setup}
 use Rattle.planner_rules.specs.Shares.{setup_checks}
 use Rattle.station_rules.specs.declared.state.Station.{Station}
-use Rattle.station_rules.specs.declared.state.Outcome.{Outcome}
-use Rattle.station_rules.specs.declared.state.Report.{Report}
+use Rattle.station_rules.specs.Answers.{Outcome, Report}
 use Rattle.station_rules.specs.State.{before_setup, emptied}
-use Rattle.station_rules.specs.Calls.{leaves, set_up, unit_full, new_target_checks, with_new, new_target, held_checks, without, removed, move_checks, with_moved}
+use Rattle.station_rules.specs.Calls.{leaves, set_up, unit_full, new_target_checks, with_new}
+use Rattle.station_rules.specs.Calls.{new_target, held_checks, without, removed, move_checks, with_moved}
 use Rattle.station_rules.specs.Calls.{moved}
 use Rattle.station_rules.specs.Calls.{request_checks, with_request, requested, reported}
 use Rattle.station_rules.specs.Planning.{next_plan}

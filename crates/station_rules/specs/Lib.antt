@@ -1,5 +1,6 @@
 -- The definitions: the state's parts and what each call answers;
 -- histories of calls, the table of numbers, what a caller has seen, what every history keeps, and the demands.
+pub mod Answers
 pub mod State
 pub mod Calls
 pub mod Planning

@@ -1,5 +1,5 @@
 -- Numbers given back: document 01's table, as the checks of each call in their order.
-use Rattle.std.specs.Prelude.{ℕ, List, ◌++◌}
+use Rattle.std.specs.Prelude.{List, ◌++◌}
 use Rattle.lists.specs.Checks.{Check}
 use Rattle.parity_rules.specs.Correction.{mark_checks}
 use Rattle.station_rules.specs.declared.state.Station.{Station}

@@ -1,12 +1,11 @@
 -- A reply to an entry of the plan in force: its checks in order, what it is answered, and the station afterwards.
 use Rattle.std.specs.Prelude.{ℕ, ◌+◌, ◌-◌, ◌^◌, List, [], ◌∷◌, ◌++◌, Bool, true, false, not, ◌&&◌, ◌||◌, length, get_or, set, eqb, leb, ltb, ℤ, pos}
+use Rattle.std.specs.Prelude.{Option, unwrap_or}
 use Rattle.std.proofs.Math.IntN.{sub_ℕ}
 use Rattle.lists.specs.Lists.{pick}
 use Rattle.lists.specs.Checks.{Check, check, checked}
 use Rattle.parity_rules.specs.Answers.{Buffers, buffers, Correction, not_corrected}
 use Rattle.parity_rules.specs.Correction.{sized, matches_of, flipped_by, correction_checks}
-use Rattle.frames_rules.specs.declared.answers.Draws.{Draws}
-use Rattle.frames_rules.specs.declared.answers.Draws.TheVariants.{Format, Nothing}
 use Rattle.frames_rules.specs.Fields.{head_of, value_at, at_ac_or_id}
 use Rattle.frames_rules.specs.Formats.{length_of}
 use Rattle.frames_rules.specs.Reading.{format_of}
@@ -16,19 +15,18 @@ use Rattle.planner_rules.specs.declared.entry.Entry.{Entry}
 use Rattle.planner_rules.specs.declared.entry.Status.{Status}
 use Rattle.planner_rules.specs.declared.entry.Status.TheVariants.{Open, Answered, Withdrawn}
 use Rattle.planner_rules.specs.Exchange.{earliest, delay, latest}
-use Rattle.station_rules.specs.declared.state.Value.TheVariants.{Heard}
 use Rattle.station_rules.specs.declared.state.Target.{Target}
 use Rattle.station_rules.specs.declared.state.Targets.{Targets}
 use Rattle.station_rules.specs.declared.state.Plan.{Plan}
 use Rattle.station_rules.specs.declared.state.Station.{Station}
-use Rattle.station_rules.specs.declared.state.Reply.{Reply}
-use Rattle.station_rules.specs.State.{in_list, with_ac, with_id, target_at, targets_put, entries_of, plan_as, with_status, no_entry, with_targets, with_plan}
+use Rattle.station_rules.specs.Answers.{Reply}
+use Rattle.station_rules.specs.State.{in_list, heard, with_ac, with_id, target_at, targets_put}
+use Rattle.station_rules.specs.State.{entries_of, plan_as, with_status, no_entry, with_targets, with_plan}
 
 -- ---- what the entry's request expects
 -- a request that draws nothing, which no call lets in, would expect format 0
-abbrev pub format_in : Draws → ℕ
-format_in (Format f) = f
-format_in Nothing = 0
+abbrev pub format_in : Option ℕ → ℕ
+format_in d = unwrap_or d 0
 
 -- the format of the reply; its length is that of the format
 unfoldable pub expected : Request → ℕ
@@ -57,7 +55,7 @@ delay_of e s = sub_ℕ s (e.start + delay)
 -- ---- what an accepted reply leaves
 -- "an accepted reply sets AC or ID with age 0"
 abbrev pub said_in : ℕ → ℕ → Target → Target
-said_in f v t = pick (holds_id f) (with_id (Heard v 0) t) (with_ac (Heard v 0) t)
+said_in f v t = pick (holds_id f) (with_id (heard v 0) t) (with_ac (heard v 0) t)
 
 -- the target of the request said it; an open entry has its target in every history of calls
 unfoldable pub targets_heard : Request → ℕ → Targets → Targets

@@ -1,15 +1,14 @@
 -- What a caller has seen of a history, and from that alone what an aircraft last said and how many plans ago. Nothing here knows the station's state
 -- but through what its calls tell.
-use Rattle.std.specs.Prelude.{ℕ, suc, min, List, [], ◌∷◌, map, Bool, not, ◌&&◌, eqb, get_or}
+use Rattle.std.specs.Prelude.{ℕ, suc, min, List, [], ◌∷◌, map, Bool, not, ◌&&◌, eqb, get_or, Option, None}
 use Rattle.lists.specs.Lists.{pick}
 use Rattle.planner_rules.specs.declared.request.Ask.{Ask}
 use Rattle.planner_rules.specs.declared.setup.Setup.{Setup}
 use Rattle.planner_rules.specs.Demand3.{ask_of}
-use Rattle.station_rules.specs.declared.state.Value.{Value}
-use Rattle.station_rules.specs.declared.state.Value.TheVariants.{Never, Heard}
-use Rattle.station_rules.specs.declared.state.Report.{Report}
+use Rattle.station_rules.specs.declared.state.Heard.{Heard}
 use Rattle.station_rules.specs.declared.state.Station.{Station}
-use Rattle.station_rules.specs.State.{entries_of, no_ask, before_setup}
+use Rattle.station_rules.specs.Answers.{Report}
+use Rattle.station_rules.specs.State.{heard, entries_of, no_ask, before_setup}
 use Rattle.station_rules.specs.Planning.{next_plan}
 use Rattle.station_rules.specs.Replies.{expected, holds_id, value_in, Received, replied}
 use Rattle.station_rules.specs.History.{Call, setup, new, remove, move, request, plan, reply, report, answer, after}
@@ -92,11 +91,11 @@ last_said i a [] = never
 last_said i a (e ∷ h) = said_after i a (in_force h) e (last_said i a h)
 
 -- ---- as a report gives it: 65,535 "means that many or more"
-abbrev pub shown : Said → Value
-shown never = Never
-shown (said v n) = Heard v (min n 65535)
+abbrev pub shown : Said → Option Heard
+shown never = None
+shown (said v n) = heard v (min n 65535)
 
-abbrev pub report_of : Kind → Report → Value
+abbrev pub report_of : Kind → Report → Option Heard
 report_of AC r = r.ac
 report_of ID r = r.id
 

@@ -1,5 +1,5 @@
 -- The lists that the parts of a station hold, and the parts with another list. A count above a part's slots counts all of them.
-use Rattle.std.specs.Prelude.{ℕ, ◌+◌, List, [], ◌∷◌, ◌++◌, map, Bool, not, length, take, set, get_or, replicate, eqb, ltb}
+use Rattle.std.specs.Prelude.{ℕ, ◌+◌, List, [], ◌∷◌, ◌++◌, map, Bool, not, length, take, set, get_or, replicate, eqb, ltb, Option, Some, None}
 use Rattle.lists.specs.Lists.{pick, index_of, filter, over}
 use Rattle.planner_rules.specs.declared.request.Request.{Request}
 use Rattle.planner_rules.specs.declared.request.Ask.{Ask}
@@ -7,8 +7,7 @@ use Rattle.planner_rules.specs.declared.entry.Entry.{Entry}
 use Rattle.planner_rules.specs.declared.entry.Status.{Status}
 use Rattle.planner_rules.specs.declared.entry.Status.TheVariants.{Open, Answered, Withdrawn}
 use Rattle.planner_rules.specs.declared.setup.Setup.{Setup}
-use Rattle.station_rules.specs.declared.state.Value.{Value}
-use Rattle.station_rules.specs.declared.state.Value.TheVariants.{Never, Heard}
+use Rattle.station_rules.specs.declared.state.Heard.{Heard}
 use Rattle.station_rules.specs.declared.state.Target.{Target}
 use Rattle.station_rules.specs.declared.state.Targets.{Targets}
 use Rattle.station_rules.specs.declared.state.Waiting.{Waiting}
@@ -35,18 +34,22 @@ place_in ts a = index_of (is_at a) ts
 abbrev pub in_list : ℕ → Targets → Bool
 in_list a t = ltb (place_in (targets_of t) a) (length (targets_of t))
 
+-- a value heard, with its age
+abbrev pub heard : ℕ → ℕ → Option Heard
+heard v age = Some (record { value = v; age = age })
+
 -- a target of which nothing was heard
 abbrev pub fresh : ℕ → ℕ → ℕ → Target
-fresh a near far = record { address = a; near = near; far = far; ac = Never; id = Never }
+fresh a near far = record { address = a; near = near; far = far; ac = None; id = None }
 
 -- the target with other edges, with another AC, with another ID
 abbrev pub with_edges : ℕ → ℕ → Target → Target
 with_edges near far t = record { address = t.address; near = near; far = far; ac = t.ac; id = t.id }
 
-abbrev pub with_ac : Value → Target → Target
+abbrev pub with_ac : Option Heard → Target → Target
 with_ac v t = record { address = t.address; near = t.near; far = t.far; ac = v; id = t.id }
 
-abbrev pub with_id : Value → Target → Target
+abbrev pub with_id : Option Heard → Target → Target
 with_id v t = record { address = t.address; near = t.near; far = t.far; ac = t.ac; id = v }
 
 -- the target of the address, or one at the station where there is none
@@ -71,9 +74,9 @@ abbrev pub age_after : ℕ → ℕ
 age_after age = pick (ltb age 65535) (age + 1) age
 
 -- "a value never heard has no age"
-abbrev pub value_after : Value → Value
-value_after Never = Never
-value_after (Heard v age) = Heard v (age_after age)
+abbrev pub value_after : Option Heard → Option Heard
+value_after None = None
+value_after (Some h) = heard h.value (age_after h.age)
 
 abbrev pub older : Target → Target
 older t = with_ac (value_after t.ac) (with_id (value_after t.id) t)

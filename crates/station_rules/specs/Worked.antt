@@ -128,7 +128,8 @@ listing =
     ∷ row (number begun (new 0 0 0) ∷ number begun (new 16777214 0 0) ∷ number begun (new 16777215 0 0) ∷ []) (2 ∷ 0 ∷ 2 ∷ [])
     -- 5: an address already there, after 2 and before 6; 6: a 65th target
     ∷ row (number two (new 2 5 4) ∷ number two (new 2 0 0) ∷ number two (new 3 0 0) ∷ []) (2 ∷ 5 ∷ 0 ∷ [])
-    ∷ row ((answer (holding 64) (new 1 0 0)).number ∷ (answer (holding 64) (new 65 0 0)).number ∷ (answer (holding 63) (new 65 0 0)).number ∷ []) (5 ∷ 6 ∷ 0 ∷ [])
+    ∷ row ((answer (holding 64) (new 1 0 0)).number ∷ (answer (holding 64) (new 65 0 0)).number ∷ (answer (holding 63) (new 65 0 0)).number ∷ [])
+    (5 ∷ 6 ∷ 0 ∷ [])
     -- a removal, a report and a move: 2, then 4 for an address not in the list
     ∷ row (number two (remove 0) ∷ number two (remove 16777215) ∷ number two (remove 3) ∷ number two (remove 2) ∷ []) (2 ∷ 2 ∷ 4 ∷ 0 ∷ [])
     ∷ row (number two (report 0) ∷ number two (report 16777215) ∷ number two (report 3) ∷ number two (report 2) ∷ []) (2 ∷ 2 ∷ 4 ∷ 0 ∷ [])
@@ -175,7 +176,8 @@ listing =
 -- the one claim
 pub calls_agree : Agrees listing
 unfolding checked count_of total every index_of filter over selective_ranged sent_for reply_for apart clear clear_of fits first place shares_fit setup_number
-    plans.tried plans.pass plans.alone plans.turns plans.plan before_setup emptied set_up target_ranged request_ranged unit_full new_target without removed moved
+    plans.tried plans.pass plans.alone plans.turns plans.plan before_setup emptied set_up target_ranged request_ranged unit_full new_target without
+    removed moved
     requested reported asked board_for next_plan after expected drawn start_of in_window targets_heard after_reply value_in settled replied bits shift_in divide
     remainder_of syndrome size_of subsets xor_of matching flipped head_of
 calls_agree =

@@ -4,4 +4,4 @@
 
 mod state;
 
-pub use state::{Outcome, Plan, Reply, Report, Station, Target, Targets, Value, Waiting};
+pub use state::{Heard, Plan, Reported, Station, Taken, Target, Targets, Waiting};

@@ -1,18 +1,18 @@
-// The state of a station, by value and in parts, and what its calls answer.
+// The state of a station, in parts, and what its calls tell.
 use planner_rules::{Entry, Request, Setup};
 
 // What an aircraft said: AC or ID, with its age in plans.
-#[derive(Clone, Copy)]
-pub enum Value {
-    Never,
-    Heard { value: u16, age: u16 },
+#[derive(Clone, Copy, Debug, PartialEq, Eq)]
+pub struct Heard {
+    pub value: u16,
+    pub age: u16,
 }
 
-// A target: what it said, and its near and far edges in round-trip ticks.
-#[derive(Clone, Copy)]
+// A target: what it said, if it did, and its near and far edges in round-trip ticks.
+#[derive(Clone, Copy, Debug, PartialEq, Eq)]
 pub struct Target {
-    pub ac: Value,
-    pub id: Value,
+    pub ac: Option<Heard>,
+    pub id: Option<Heard>,
     pub address: u32,
     pub near: u16,
     pub far: u16,
@@ -48,26 +48,16 @@ pub struct Station {
     pub setup: Setup,
 }
 
-// The number that a call is given, and the station afterwards.
-#[derive(Clone, Copy)]
-pub struct Outcome {
-    pub number: u8,
-    pub station: Station,
+// What a report tells of a target: AC and ID, each with its age or never heard.
+#[derive(Clone, Copy, Debug, PartialEq, Eq)]
+pub struct Reported {
+    pub ac: Option<Heard>,
+    pub id: Option<Heard>,
 }
 
-// What a report is answered.
-#[derive(Clone, Copy)]
-pub struct Report {
-    pub number: u8,
-    pub ac: Value,
-    pub id: Value,
-}
-
-// What a reply is answered: its number, the flips, the measured delay, and the station afterwards.
-#[derive(Clone, Copy)]
-pub struct Reply {
-    pub number: u8,
+// What a reply that is taken tells: the flips, and the measured delay.
+#[derive(Clone, Copy, Debug, PartialEq, Eq)]
+pub struct Taken {
     pub flips: u32,
     pub delay: i32,
-    pub station: Station,
 }

@@ -1,6 +1,8 @@
 -- The lines of a plan's entries, of which those before place i are put.
 use Rattle.std.proofs.Common.{◌≡◌, ℕ, ◌+◌, ◌<◌, ◌≤◌, min, List, [], ◌∷◌, ◌++◌, length, get_or, take, drop, sym, add-one}
-use Rattle.lists.proofs.Front.{front_drop, front_end}
+use Rattle.std.proofs.lemmas.List.{drop_more}
+use lib.ListN.{drop_of_length-le}
+use Rattle.lists.proofs.Front.{take_cut}
 use Rattle.text_rules.specs.Put.{decimal}
 use Rattle.planner_rules.specs.declared.entry.Entry.{Entry}
 use Rattle.planner_rules.specs.Exchange.{exchange_of, listens}
@@ -11,14 +13,18 @@ use Rattle.stream_rules.proofs.Spaced.{line_spaced, spaced_more}
 use Rattle.stream.specs.Calls.{Within}
 use Rattle.stream.proofs.Lengths.{within_of}
 
-pub entries_more : (m : ℕ) (l : List Entry) (i : ℕ) (d : Entry) → i < min m (length l)
-    → entry_lines i (drop i (take m l)) ≡ entry_line i (get_or l i d) ++ entry_lines (i + 1) (drop (i + 1) (take m l))
+pub entries_more : (es : List Entry) (i : ℕ) (d : Entry) → i < length es
+    → entry_lines i (drop i es) ≡ entry_line i (get_or es i d) ++ entry_lines (i + 1) (drop (i + 1) es)
 unfolding entry_lines
-entries_more m l i d b = rw (front_drop m l i d b, add-one)
+entries_more es i d b = rw (drop_more es i d b, add-one)
 
-pub entries_none : (m : ℕ) (l : List Entry) (i : ℕ) → min m (length l) ≤ i → entry_lines i (drop i (take m l)) ≡ []
+pub entries_none : (es : List Entry) (i : ℕ) → length es ≤ i → entry_lines i (drop i es) ≡ []
 unfolding entry_lines
-entries_none m l i b = rw (front_end m l i b)
+entries_none es i b = rw (drop_of_length-le es b)
+
+-- the first of the slots, by how many of them count
+pub entries_live : (es : List Entry) (m : ℕ) {n : ℕ} → n ≡ min m 128 → length es ≡ 128 → take n es ≡ take m es
+entries_live es m h z = rw (h, sym z) (take_cut m es)
 
 -- an entry's numbers by its exchange
 pub entry_put : (k : ℕ) (e : Entry) (b : ℕ) {x : Exchange} → x ≡ held (exchange_of e.ask) → {at r : ℕ} {l m : List ℕ}

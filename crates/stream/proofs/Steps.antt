@@ -1,5 +1,6 @@
 -- Laws of what a record does and prints, and of one step.
-use Rattle.std.proofs.Common.{◌≡◌, ℕ, ◌+◌, ◌%◌, ◌^◌, ◌<◌, ◌≤◌, Bool, true, false, eqb, ◌⊎◌, List, [], ◌++◌, length, take, replicate, sym, refl, ap, ⊎_elim, append-nil, arith, eq-eqb, ne_eqb, eqb-true}
+use Rattle.std.proofs.Common.{Result, Ok, Err, ◌≡◌, ℕ, ◌+◌, ◌%◌, ◌^◌, ◌<◌, ◌≤◌, Bool, true, false, eqb, ◌⊎◌, List}
+use Rattle.std.proofs.Common.{[], ◌++◌, length, take, replicate, sym, refl, ap, ◌∙◌, ⊎_elim, append-nil, arith, eq-eqb, ne_eqb, eqb-true}
 use borrow.Author.Tests.{eqb-false}
 use Rattle.lists.specs.Lists.{pick}
 use Rattle.reader_rules.specs.declared.fields.Reply.{Reply}
@@ -10,12 +11,13 @@ use Rattle.parity_rules.specs.Places.{places_in}
 use Rattle.reader_rules.specs.Fields.{reply_at}
 use Rattle.reader_rules.proofs.Parts.{parts_in_order}
 use Rattle.station_rules.specs.declared.state.Station.{Station}
-use Rattle.station_rules.specs.declared.state.Report.{Report}
+use Rattle.station_rules.specs.declared.state.Taken.{Taken}
+use Rattle.station_rules.specs.Answers.{Report, reply_as}
+use Rattle.refusals.specs.declared.refusal.Refusal.{Refusal}
+use Rattle.refusals.specs.Refusals.{number_given}
 use Rattle.station_rules.specs.Replies.{Replied}
-use Rattle.stream.specs.declared.obey.Done.{Done}
 use Rattle.stream_rules.specs.Lines.{answer_line, reply_line, report_line}
 use Rattle.stream.specs.Calls.{Within, Did, Stepped, Advanced}
-use Rattle.stream.specs.declared.step.Step.{Step}
 use Rattle.stream_rules.specs.declared.run.Run.{Run}
 use Rattle.stream_rules.proofs.Runs.{stays_ended, lays_nothing}
 use Rattle.stream_rules.specs.Step.{Obeyed, refused_at, replied_to, reply_to, zeros, reported_to, obeyed}
@@ -23,12 +25,12 @@ use Rattle.stream_rules.specs.Run.{obeyed_at, goes_on, obeyed_now, lines_now, st
 use Rattle.stream.proofs.Lengths.{within_more, within_of}
 
 -- what a record does, by another name
-pub did_of : {o p : Obeyed} {at : ℕ} {l m : List ℕ} {r : Done} → o ≡ p → Did o at l m r → Did p at l m r
+pub did_of : {o p : Obeyed} {at : ℕ} {l m : List ℕ} {st : Station} {end : ℕ} → o ≡ p → Did o at l m st end → Did p at l m st end
 did_of e d = rw e at d
 
 -- its lines, by their own name
-pub did_lines : {o : Obeyed} {at : ℕ} {l m t : List ℕ} {r : Done} (k : ℕ) → k ≤ longest → r.station ≡ o.station → t ≡ o.lines → Within k t at l m r.end
-    → Did o at l m r
+pub did_lines : {o : Obeyed} {at : ℕ} {l m t : List ℕ} {st : Station} {end : ℕ} (k : ℕ) → k ≤ longest → st ≡ o.station → t ≡ o.lines
+    → Within k t at l m end → Did o at l m st end
 did_lines k h e f w = record { station = e; lines = within_more k longest h (within_of f w) }
 
 -- ---- a report, refused and taken
@@ -41,6 +43,11 @@ module _ (n : ℕ) (st : Station) (t : Report) where
   report_taken h = rw (eq-eqb t.number 0 h)
 
 -- ---- a reply, refused and taken
+
+-- the number of what a reply is answered
+pub reply_number : (r : Result Taken Refusal) (st : Station) → (reply_as r st).number ≡ number_given r
+reply_number (Ok t) st = refl
+reply_number (Err x) st = refl
 
 module _ (n kind : ℕ) (r : Replied) where
   pub reply_refused : (r.number ≡ 0 → ⊥) → answer_line n kind r.number ≡ (replied_to n kind r).lines
@@ -107,40 +114,45 @@ front_zeros kind n e = rw e (go (eqb kind 7))
     go true = refl
     go false = refl
 
--- ---- a step by what stands at the place
+-- ---- a step by what stands at the run's place
 
-module _ (s : List ℕ) (place n : ℕ) (st : Station) {at : ℕ} {l : List ℕ} where
-  step_as : (f : Found) {m : List ℕ} {k : ℕ} → record_at s place ≡ f → Within longest (obeyed_at s n st f).lines at l m k
-      → Stepped s place n st at l m (record { station = (obeyed_at s n st f).station; more = goes_on f; next = next_place f place; end = k })
-  step_as f h w = record { station = rw h; more = rw h; next = rw h; lines = rw h w }
+module _ (s : List ℕ) (r : Run) {at : ℕ} {l : List ℕ} {n : ℕ} (counted : n ≡ (r.n + 1) % 2 ^ 32) where
+  step_as : (f : Found) {m : List ℕ} {k : ℕ} → record_at s r.at ≡ f → Within longest (obeyed_at s r.n r.station f).lines at l m k
+      → Stepped s r at l m
+      (record { station = (obeyed_at s r.n r.station f).station; at = next_place f r.at; n = n; more = goes_on f }) k
+  unfolding stepped obeyed_now
+  step_as f h w = record { run = rw (h, counted); lines = rw h w }
 
-  pub step_end : {k : ℕ} {m : List ℕ} → record_at s place ≡ End → Within 0 [] at l m k
-      → Stepped s place n st at l m (record { station = st; more = false; next = place; end = k })
+  pub step_end : {k : ℕ} {m : List ℕ} → record_at s r.at ≡ End → Within 0 [] at l m k
+      → Stepped s r at l m (record { station = r.station; at = r.at; n = n; more = false }) k
   unfolding obeyed_at goes_on next_place
   step_end h w = step_as End h (within_more 0 longest (omega arith) w)
 
-  pub step_unknown : {kind k : ℕ} {m : List ℕ} → record_at s place ≡ Unknown kind → Within 36 (answer_line n kind 16) at l m k
-      → Stepped s place n st at l m (record { station = st; more = false; next = place; end = k })
+  pub step_unknown : {kind k : ℕ} {m : List ℕ} → record_at s r.at ≡ Unknown kind → Within 36 (answer_line r.n kind 16) at l m k
+      → Stepped s r at l m (record { station = r.station; at = r.at; n = n; more = false }) k
   unfolding obeyed_at goes_on next_place
   step_unknown {kind} h w = step_as (Unknown kind) h (within_more 36 longest (omega arith) w)
 
-  pub step_cut : {kind k : ℕ} {m : List ℕ} → record_at s place ≡ Cut kind → Within 36 (answer_line n kind 17) at l m k
-      → Stepped s place n st at l m (record { station = st; more = false; next = place; end = k })
+  pub step_cut : {kind k : ℕ} {m : List ℕ} → record_at s r.at ≡ Cut kind → Within 36 (answer_line r.n kind 17) at l m k
+      → Stepped s r at l m (record { station = r.station; at = r.at; n = n; more = false }) k
   unfolding obeyed_at goes_on next_place
   step_cut {kind} h w = step_as (Cut kind) h (within_more 36 longest (omega arith) w)
 
-  pub step_whole : {kind b next : ℕ} {m : List ℕ} {d : Done} → record_at s place ≡ Whole kind b next → Did (obeyed s n kind b st) at l m d
-      → Stepped s place n st at l m (record { station = d.station; more = true; next = next; end = d.end })
+  pub step_whole : {kind b next k : ℕ} {m : List ℕ} {st : Station} → record_at s r.at ≡ Whole kind b next → Did (obeyed s r.n kind b r.station) at l m st k
+      → Stepped s r at l m (record { station = st; at = next; n = n; more = true }) k
   unfolding obeyed_at goes_on next_place
   step_whole {kind} {b} {next} h d = rw d.station (step_as (Whole kind b next) h d.lines)
 
 -- ---- a run by whether it goes on
 
 module _ (s : List ℕ) (r : Run) {at : ℕ} {l m : List ℕ} where
-  pub stay_ended : {k : ℕ} → r.more ≡ false → Within 0 [] at l m k → Advanced s r at l m (record { run = r; end = k })
+  pub stay_ended : {k : ℕ} → r.more ≡ false → Within 0 [] at l m k → Advanced s r at l m r k
   stay_ended e w = record { run = sym (stays_ended s r e); lines = within_of (sym (lays_nothing s r e)) (within_more 0 longest (omega arith) w) }
 
-  pub go_on : {k : ℕ} {x : Step} → r.more ≡ true → k ≡ (r.n + 1) % 2 ^ 32 → Stepped s r.at r.n r.station at l m x
-      → Advanced s r at l m (record { run = record { station = x.station; at = x.next; n = k; more = x.more }; end = x.end })
-  unfolding lines_now advanced stepped obeyed_now
-  go_on e c p = record { run = rw (e, c, p.station, p.next, p.more); lines = rw e p.lines }
+  pub go_on : {k : ℕ} {q : Run} → r.more ≡ true → Stepped s r at l m q k → Advanced s r at l m q k
+  unfolding lines_now advanced
+  go_on e p =
+      record {
+        run = p.run ∙ sym (ap (λ (b : Bool). pick b (stepped s r) r) e);
+        lines = within_of (sym (ap (λ (b : Bool). pick b (obeyed_now s r).lines []) e)) p.lines;
+      }

@@ -40,8 +40,6 @@ fn put_words(out: &mut [u8], at: usize, k: u32, e: Entry, behind: u8) -> usize
     let a = e.ask;
     let x = Exchange::of(a);
     let start = e.start as u32;
-    let from = start + x.from;
-    let to = start + x.to;
     put_numbers(
         out,
         at,
@@ -49,8 +47,8 @@ fn put_words(out: &mut [u8], at: usize, k: u32, e: Entry, behind: u8) -> usize
         a.request.unit as u32,
         a.request.address,
         start,
-        from,
-        to,
+        start + x.from,
+        start + x.to,
         behind,
     )
 }
@@ -70,16 +68,12 @@ pub fn put_entry_head(out: &mut [u8], at: usize, k: u32, e: Entry) -> usize
 }
 
 // The first n entries, a line each.
-pub fn put_entries(out: &mut [u8], at: usize, entries: [Entry; 128], n: usize) -> usize
-    ensures { Within 9216 (entry_lines 0 (take n entries)) at out.old out.new result }
+pub fn put_entries(out: &mut [u8], at: usize, entries: &[Entry; 128], n: usize) -> usize
+    ensures { Within 9216 (entry_lines 0 (take n entries.now)) at out.old out.new result }
 {
-    let m = live(n, 128);
     let mut next = put_nothing(out, at);
-    let mut i: usize = 0;
-    while i < m {
-        let e = entries[i];
-        next = put_entry(out, next, i as u32, e);
-        i += 1;
+    for (k, &e) in entries[..live(n, 128)].iter().enumerate() {
+        next = put_entry(out, next, k as u32, e);
     }
     next
 }

@@ -1,4 +1,4 @@
-// What a record of each kind does: the station afterwards, and its lines at a place of the buffer.
+// What a record of each kind does: the station that is lent, and its lines at a place of the buffer.
 ghost use Rattle.station_rules.specs.Calls.{set_up, new_target, removed, moved, requested, reported};
 ghost use Rattle.station_rules.specs.Planning.{next_plan};
 ghost use Rattle.reader_rules.specs.Fields.{setup_at, edges_at, address_at, request_at, tag_at};
@@ -9,107 +9,69 @@ use crate::answers::put_answer;
 use crate::entries::put_entries;
 use crate::replies::obey_reply;
 use crate::report::put_report;
-use station_rules::{Outcome, Station};
+use refusals::{Refusal, number_given};
+use station_rules::Station;
 
-// The station afterwards, and the place behind the lines.
-#[derive(Clone, Copy)]
-pub(crate) struct Done {
-    pub station: Station,
-    pub end: usize,
-}
-
-// Number, kind, answer.
-fn put_answered(n: u32, kind: u8, a: Outcome, out: &mut [u8], at: usize) -> Done
-    ensures { Did (answered n kind a) at out.old out.new result }
+fn obey_setup(s: &[u8], b: usize, n: u32, st: &mut Station, out: &mut [u8], at: usize) -> usize
+    ensures { Did (answered n 1 (set_up st.old (setup_at s.now b))) at out.old out.new st.new result }
 {
-    let end = put_answer(out, at, n, kind, a.number);
-    let station = a.station;
-    Done {
-        station: station,
-        end: end,
-    }
+    let r = station::set_up(st, reader::setup_at(s, b));
+    put_answer(out, at, n, 1, number_given(&r))
 }
 
-fn obey_setup(s: &[u8], b: usize, n: u32, st: Station, out: &mut [u8], at: usize) -> Done
-    ensures { Did (answered n 1 (set_up st (setup_at s.now b))) at out.old out.new result }
-{
-    let h = reader::setup_at(s, b);
-    let a = station::set_up(st, h);
-    put_answered(n, 1, a, out, at)
-}
-
-fn obey_new_target(s: &[u8], b: usize, n: u32, st: Station, out: &mut [u8], at: usize) -> Done
+fn obey_new_target(s: &[u8], b: usize, n: u32, st: &mut Station, out: &mut [u8], at: usize) -> usize
     ensures { Did (answered n 2
-        (new_target st (edges_at s.now b).address (edges_at s.now b).near (edges_at s.now b).far))
-        at out.old out.new result }
+        (new_target st.old (edges_at s.now b).address (edges_at s.now b).near (edges_at s.now b).far))
+        at out.old out.new st.new result }
 {
     let e = reader::edges_at(s, b);
-    let a = station::add_target(st, e.address, e.near, e.far);
-    put_answered(n, 2, a, out, at)
+    let r = station::add_target(st, e.address, e.near, e.far);
+    put_answer(out, at, n, 2, number_given(&r))
 }
 
-fn obey_remove(s: &[u8], b: usize, n: u32, st: Station, out: &mut [u8], at: usize) -> Done
-    ensures { Did (answered n 3 (removed st (address_at s.now b))) at out.old out.new result }
+fn obey_remove(s: &[u8], b: usize, n: u32, st: &mut Station, out: &mut [u8], at: usize) -> usize
+    ensures { Did (answered n 3 (removed st.old (address_at s.now b))) at out.old out.new st.new result }
 {
-    let address = reader::address_at(s, b);
-    let a = station::remove_target(st, address);
-    put_answered(n, 3, a, out, at)
+    let r = station::remove_target(st, reader::address_at(s, b));
+    put_answer(out, at, n, 3, number_given(&r))
 }
 
-fn obey_request(s: &[u8], b: usize, n: u32, st: Station, out: &mut [u8], at: usize) -> Done
-    ensures { Did (answered n 4 (requested st (request_at s.now b))) at out.old out.new result }
+fn obey_request(s: &[u8], b: usize, n: u32, st: &mut Station, out: &mut [u8], at: usize) -> usize
+    ensures { Did (answered n 4 (requested st.old (request_at s.now b))) at out.old out.new st.new result }
 {
-    let q = reader::request_at(s, b);
-    let a = station::take_request(st, q);
-    put_answered(n, 4, a, out, at)
+    let r = station::take_request(st, reader::request_at(s, b));
+    put_answer(out, at, n, 4, number_given(&r))
 }
 
 // A plan adds a line for each entry.
-fn obey_plan(s: &[u8], b: usize, n: u32, st: Station, out: &mut [u8], at: usize) -> Done
-    ensures { Did (planned_to n (next_plan st (tag_at s.now b))) at out.old out.new result }
+fn obey_plan(s: &[u8], b: usize, n: u32, st: &mut Station, out: &mut [u8], at: usize) -> usize
+    ensures { Did (planned_to n (next_plan st.old (tag_at s.now b))) at out.old out.new st.new result }
 {
-    let tag = reader::tag_at(s, b);
-    let after = station::plan_period(st, tag);
+    station::plan_period(st, reader::tag_at(s, b));
     let first = put_answer(out, at, n, 5, 0);
-    let plan = after.plan;
-    let entries = plan.list;
-    let end = put_entries(out, first, entries, plan.n);
-    Done {
-        station: after,
-        end: end,
-    }
+    put_entries(out, first, &st.plan.list, st.plan.n)
 }
 
 // A taken report adds a line.
-fn obey_report(s: &[u8], b: usize, n: u32, st: Station, out: &mut [u8], at: usize) -> Done
-    ensures { Did (reported_to n st (reported st (address_at s.now b))) at out.old out.new result }
+fn obey_report(s: &[u8], b: usize, n: u32, st: &Station, out: &mut [u8], at: usize) -> usize
+    ensures { Did (reported_to n st.now (reported st.now (address_at s.now b))) at out.old out.new st.now result }
 {
-    let address = reader::address_at(s, b);
-    let t = station::report_on(st, address);
-    let first = put_answer(out, at, n, 8, t.number);
-    if t.number != 0 {
-        return Done {
-            station: st,
-            end: first,
-        };
-    }
-    let ac = t.ac;
-    let id = t.id;
-    let end = put_report(out, first, ac, id);
-    Done {
-        station: st,
-        end: end,
+    let r = station::report_on(st, reader::address_at(s, b));
+    let first = put_answer(out, at, n, 8, number_given(&r));
+    match r {
+        Ok(t) => put_report(out, first, t.ac, t.id),
+        Err(_) => first,
     }
 }
 
-fn obey_move(s: &[u8], b: usize, n: u32, st: Station, out: &mut [u8], at: usize) -> Done
+fn obey_move(s: &[u8], b: usize, n: u32, st: &mut Station, out: &mut [u8], at: usize) -> usize
     ensures { Did (answered n 9
-        (moved st (edges_at s.now b).address (edges_at s.now b).near (edges_at s.now b).far))
-        at out.old out.new result }
+        (moved st.old (edges_at s.now b).address (edges_at s.now b).near (edges_at s.now b).far))
+        at out.old out.new st.new result }
 {
     let e = reader::edges_at(s, b);
-    let a = station::move_target(st, e.address, e.near, e.far);
-    put_answered(n, 9, a, out, at)
+    let r = station::move_target(st, e.address, e.near, e.far);
+    put_answer(out, at, n, 9, number_given(&r))
 }
 
 // A record of any kind, with its body at the place b.
@@ -118,11 +80,11 @@ pub(crate) fn obey(
     kind: u8,
     b: usize,
     n: u32,
-    st: Station,
+    st: &mut Station,
     out: &mut [u8],
     at: usize,
-) -> Done
-    ensures { Did (obeyed s.now n kind b st) at out.old out.new result }
+) -> usize
+    ensures { Did (obeyed s.now n kind b st.old) at out.old out.new st.new result }
 {
     match kind {
         1 => obey_setup(s, b, n, st, out, at),
@@ -133,12 +95,6 @@ pub(crate) fn obey(
         6 | 7 => obey_reply(s, kind, b, n, st, out, at),
         8 => obey_report(s, b, n, st, out, at),
         9 => obey_move(s, b, n, st, out, at),
-        _ => {
-            let a = Outcome {
-                number: 16,
-                station: st,
-            };
-            put_answered(n, kind, a, out, at)
-        }
+        _ => put_answer(out, at, n, kind, u8::from(Refusal::Unknown)),
     }
 }

@@ -3,30 +3,31 @@ ghost use Rattle.std.specs.Prelude.{◌≡◌, ◌≤◌, [], length};
 ghost use Rattle.parity_rules.specs.Answers.{buffers};
 ghost use Rattle.parity_rules.specs.Places.{places_in};
 ghost use Rattle.station_rules.specs.Replies.{received, told, replied};
+ghost use Rattle.refusals.specs.Refusals.{number_given};
+ghost use Rattle.station_rules.specs.declared.state.Station.{Station};
+ghost use Rattle.station_rules.specs.Answers.{reply_as};
 ghost use Rattle.stream_rules.specs.Step.{replied_to, reply_to, zeros};
 ghost use Rattle.stream.specs.Calls.{Did};
 
 use crate::answers::{put_answer, put_reply_answer};
-use crate::obey::Done;
-use station_rules::{Reply, Station};
+use refusals::Refusal;
+use station_rules::{Station, Taken};
 
 // A taken reply adds flips, delay and places on its line.
-fn put_replied(n: u32, kind: u8, r: Reply, places: &[u8], out: &mut [u8], at: usize) -> Done
-    requires { (length places.now ≤ 14) × (r.number ≡ 0 → length (places_in places.now) ≤ 12) }
-    ensures { Did (replied_to n kind (told r (buffers [] places.now))) at out.old out.new result }
+fn put_replied(
+    n: u32,
+    kind: u8,
+    r: Result<Taken, Refusal>,
+    places: &[u8],
+    out: &mut [u8],
+    at: usize,
+) -> usize
+    requires { (length places.now ≤ 14) × (number_given r ≡ 0 → length (places_in places.now) ≤ 12) }
+    ensures { (st : Station) → Did (replied_to n kind (told (reply_as r st) (buffers [] places.now))) at out.old out.new st result }
 {
-    let station = r.station;
-    if r.number != 0 {
-        let refused = put_answer(out, at, n, kind, r.number);
-        return Done {
-            station: station,
-            end: refused,
-        };
-    }
-    let taken = put_reply_answer(out, at, n, kind, r.flips, r.delay, places);
-    Done {
-        station: station,
-        end: taken,
+    match r {
+        Ok(t) => put_reply_answer(out, at, n, kind, t.flips, t.delay, places),
+        Err(refusal) => put_answer(out, at, n, kind, u8::from(refusal)),
     }
 }
 
@@ -34,7 +35,7 @@ fn put_replied(n: u32, kind: u8, r: Reply, places: &[u8], out: &mut [u8], at: us
 fn put_taken(
     n: u32,
     kind: u8,
-    st: Station,
+    st: &mut Station,
     entry: usize,
     tag: u32,
     msg: &[u8],
@@ -43,11 +44,11 @@ fn put_taken(
     flipped: &mut [u8],
     out: &mut [u8],
     at: usize,
-) -> Done
+) -> usize
     requires { length flipped.old ≤ 14 }
-    ensures { Did (replied_to n kind (replied st
+    ensures { Did (replied_to n kind (replied st.old
         (received entry tag msg.now marks.now corrected.old flipped.old)))
-        at out.old out.new result }
+        at out.old out.new st.new result }
 {
     let r = station::take_reply(st, entry, tag, msg, marks, corrected, flipped);
     put_replied(n, kind, r, flipped, out, at)
@@ -59,17 +60,13 @@ pub(crate) fn obey_reply(
     kind: u8,
     b: usize,
     n: u32,
-    st: Station,
+    st: &mut Station,
     out: &mut [u8],
     at: usize,
-) -> Done
-    ensures { Did (replied_to n kind (reply_to s.now kind b st (zeros kind))) at out.old out.new result }
+) -> usize
+    ensures { Did (replied_to n kind (reply_to s.now kind b st.old (zeros kind))) at out.old out.new st.new result }
 {
     let q = reader::reply_at(s, kind, b);
-    let message = q.message;
-    let marks = q.marks;
-    let end = q.end;
-    let entry = q.entry as usize;
     let size = reader::message_length(kind);
     let mut corrected = [0u8; 14];
     let mut flipped = [0u8; 14];
@@ -77,10 +74,10 @@ pub(crate) fn obey_reply(
         n,
         kind,
         st,
-        entry,
+        q.entry as usize,
         q.tag,
-        &s[message..marks],
-        &s[marks..end],
+        &s[q.message..q.marks],
+        &s[q.marks..q.end],
         &mut corrected[..size],
         &mut flipped[..size],
         out,

@@ -4,7 +4,7 @@ ghost use Rattle.stream_rules.specs.Lines.{followed, value_word, age_word, repor
 ghost use Rattle.stream.specs.Calls.{Within};
 
 use crate::words::{NEWLINE, SPACE, put_number};
-use station_rules::Value;
+use station_rules::Heard;
 
 // A dash, and the byte behind it.
 fn put_dash(out: &mut [u8], at: usize, behind: u8) -> usize
@@ -15,23 +15,23 @@ fn put_dash(out: &mut [u8], at: usize, behind: u8) -> usize
 }
 
 // AC or ID and its age, or a dash for each, and the byte behind them.
-fn put_value(out: &mut [u8], at: usize, v: Value, behind: u8) -> usize
+fn put_value(out: &mut [u8], at: usize, v: Option<Heard>, behind: u8) -> usize
     ensures { Within 24 (followed (value_word v) 32 ++ followed (age_word v) behind) at out.old out.new result }
 {
     match v {
-        Value::Never => {
+        None => {
             let at_age = put_dash(out, at, SPACE);
             put_dash(out, at_age, behind)
         }
-        Value::Heard { value, age } => {
-            let at_age = put_number(out, at, value as u32, SPACE);
-            put_number(out, at_age, age as u32, behind)
+        Some(h) => {
+            let at_age = put_number(out, at, h.value as u32, SPACE);
+            put_number(out, at_age, h.age as u32, behind)
         }
     }
 }
 
 // AC, its age, ID, its age.
-pub fn put_report(out: &mut [u8], at: usize, ac: Value, id: Value) -> usize
+pub fn put_report(out: &mut [u8], at: usize, ac: Option<Heard>, id: Option<Heard>) -> usize
     ensures { Within 48 (report_line ac id) at out.old out.new result }
 {
     let at_id = put_value(out, at, ac, SPACE);

@@ -5,7 +5,7 @@ ghost use Rattle.stream.specs.Calls.{Advanced};
 
 use crate::step::put_step;
 use crate::words::put_nothing;
-use stream_rules::{Progress, Run};
+use stream_rules::Run;
 
 // The bytes of the buffer in which lines are held back, and the most that the lines of one record have.
 pub const ROOM: usize = 10240;
@@ -16,9 +16,8 @@ const LONGEST: usize = 9252;
 pub fn begin() -> Run
     ensures { result ≡ begun }
 {
-    let station = station::before_setup();
     Run {
-        station: station,
+        station: station::before_setup(),
         at: 0,
         n: 1,
         more: true,
@@ -26,30 +25,13 @@ pub fn begin() -> Run
 }
 
 // One record more: its lines stand at the place at of out. A run that has ended stays as it is.
-pub fn advance(s: &[u8], run: Run, out: &mut [u8; ROOM], at: usize) -> Progress
-    ensures { Advanced s.now run at out.old out.new result }
+pub fn advance(s: &[u8], run: &mut Run, out: &mut [u8; ROOM], at: usize) -> usize
+    ensures { Advanced s.now run.old at out.old out.new run.new result }
 {
     if !run.more {
-        return Progress {
-            run: run,
-            end: put_nothing(out, at),
-        };
+        return put_nothing(out, at);
     }
-    let place = run.at;
-    let n = run.n;
-    let before = run.station;
-    let step = put_step(s, place, n, before, out, at);
-    let after = step.station;
-    let next = Run {
-        station: after,
-        at: step.next,
-        n: std::num::wrapping_add_u32(n, 1),
-        more: step.more,
-    };
-    Progress {
-        run: next,
-        end: step.end,
-    }
+    put_step(s, run, out, at)
 }
 
 // Whether the lines of one record more might not fit behind those that are held.

@@ -1,60 +1,36 @@
-// One step: what stands at a place of the stream, done and printed.
+// One step: what stands at the run's place of the stream, done and printed.
 ghost use Rattle.stream.specs.Calls.{Stepped};
 
 use crate::answers::put_answer;
 use crate::obey::obey;
 use crate::words::put_nothing;
 use reader_rules::Found;
-use station_rules::Station;
+use refusals::Refusal;
+use stream_rules::Run;
 
-// The station afterwards, whether the run goes on and where, and the place behind the lines.
-#[derive(Clone, Copy)]
-pub(crate) struct Step {
-    pub station: Station,
-    pub more: bool,
-    pub next: usize,
-    pub end: usize,
-}
-
-// What stands at a place of the stream, as record n: its lines go to the place at of out.
-pub(crate) fn put_step(
-    s: &[u8],
-    place: usize,
-    n: u32,
-    st: Station,
-    out: &mut [u8],
-    at: usize,
-) -> Step
-    ensures { Stepped s.now place n st at out.old out.new result }
+// What stands at the run's place: its lines go to the place at of out. The run goes on behind a whole record, and ends at anything else.
+pub(crate) fn put_step(s: &[u8], run: &mut Run, out: &mut [u8], at: usize) -> usize
+    ensures { Stepped s.now run.old at out.old out.new run.new result }
 {
-    match reader::found_at(s, place) {
-        Found::End => Step {
-            station: st,
-            more: false,
-            next: place,
-            end: put_nothing(out, at),
-        },
-        Found::Unknown(kind) => Step {
-            station: st,
-            more: false,
-            next: place,
-            end: put_answer(out, at, n, kind, 16),
-        },
-        Found::Cut(kind) => Step {
-            station: st,
-            more: false,
-            next: place,
-            end: put_answer(out, at, n, kind, 17),
-        },
+    let n = run.n;
+    run.n = std::num::wrapping_add_u32(n, 1);
+    match reader::found_at(s, run.at) {
+        Found::End => {
+            run.more = false;
+            put_nothing(out, at)
+        }
+        Found::Unknown(kind) => {
+            run.more = false;
+            put_answer(out, at, n, kind, u8::from(Refusal::Unknown))
+        }
+        Found::Cut(kind) => {
+            run.more = false;
+            put_answer(out, at, n, kind, u8::from(Refusal::Cut))
+        }
         Found::Whole { kind, body, next } => {
-            let done = obey(s, kind, body, n, st, out, at);
-            let after = done.station;
-            Step {
-                station: after,
-                more: true,
-                next: next,
-                end: done.end,
-            }
+            run.at = next;
+            run.more = true;
+            obey(s, kind, body, n, &mut run.station, out, at)
         }
     }
 }

@@ -17,9 +17,7 @@ fn print_stream(rt: &(impl Print + Eprint), s: &[u8]) -> bool {
             }
             held = 0;
         }
-        let ahead = stream::advance(s, run, &mut lines, held);
-        run = ahead.run;
-        held = ahead.end;
+        held = stream::advance(s, &mut run, &mut lines, held);
     }
     inputs::print(rt, &lines[..held])
 }

@@ -10,7 +10,8 @@ use Rattle.text_rules.specs.Signed.{signed_decimal}
 use Rattle.text_rules.specs.Plain.{plain}
 use Rattle.planner_rules.specs.declared.request.Ask.{Ask}
 use Rattle.planner_rules.specs.Exchange.{sent_for, reply_for, entry_at}
-use Rattle.station_rules.specs.declared.state.Value.TheVariants.{Never, Heard}
+use Rattle.std.specs.Prelude.{None}
+use Rattle.station_rules.specs.State.{heard}
 use Rattle.stream_rules.specs.Reader.{numbers_on, entries_first}
 use Rattle.stream_rules.specs.Lines.{line, answer_line, reply_line, entry_line, value_word, age_word, report_line}
 
@@ -46,16 +47,16 @@ entry_then_reply : entries_first (numbers_on (plain "0 0 1 0 2530 2798\n7 6 0 1 
 unfolding entries_first blank newline grown parts full lines_of words_of value_after
 entry_then_reply = refl
 
-nothing_heard : report_line Never Never ≡ plain "- - - -\n"
+nothing_heard : report_line None None ≡ plain "- - - -\n"
 unfolding report_line line value_word age_word
 nothing_heard = refl
 
 -- an AC of 0 that was heard after the last plan
-heard_zero : report_line (Heard 0 0) Never ≡ plain "0 0 - -\n"
+heard_zero : report_line (heard 0 0) None ≡ plain "0 0 - -\n"
 unfolding report_line line value_word age_word decimal decimal_in
 heard_zero = refl
 
 -- value before age, AC before ID
-heard_both : report_line (Heard 5776 2) (Heard 2349 0) ≡ plain "5776 2 2349 0\n"
+heard_both : report_line (heard 5776 2) (heard 2349 0) ≡ plain "5776 2 2349 0\n"
 unfolding report_line line value_word age_word decimal decimal_in
 heard_both = refl

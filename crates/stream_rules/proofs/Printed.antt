@@ -218,7 +218,8 @@ whole_lines s k {kind} h =
     ∙ ap (λ (o : Obeyed). o.lines) (whole_done s (place_of s k) (suc k) st h.whole)
     ∙ ap (lines_for (suc k) kind st) h.call_is
 
-whole_told : (s : List ℕ) (k : ℕ) {kind : ℕ} {c : Call} → Spells s k kind c → MessageBytes c → Told (suc k) kind (calls_of s k) (shown_to s k) c (record_lines s k)
+whole_told : (s : List ℕ) (k : ℕ) {kind : ℕ} {c : Call} → Spells s k kind c → MessageBytes c
+    → Told (suc k) kind (calls_of s k) (shown_to s k) c (record_lines s k)
 whole_told s k {kind} {c} h b =
     let cs = calls_of s k in
     subst (λ (v : List Shown). Told (suc k) kind cs v c (record_lines s k)) (sym (shown_is s k))
@@ -238,7 +239,8 @@ pub printed : (s : List ℕ) → AreBytes s → (k : ℕ) → Printed s (suc k) 
 printed s bytes k = found_told s k (found_after s k) bytes refl
 
 -- (a) the number on its line is the one that the table gives its call, and a reader finds it there
-pub number_printed : (s : List ℕ) (k : ℕ) {kind : ℕ} {c : Call} → Spells s k kind c → NumberPrinted (suc k) kind (number_given (calls_of s k) c) (record_lines s k)
+pub number_printed : (s : List ℕ) (k : ℕ) {kind : ℕ} {c : Call} → Spells s k kind c
+    → NumberPrinted (suc k) kind (number_given (calls_of s k) c) (record_lines s k)
 number_printed s k {kind} {c} h =
     subst (NumberPrinted (suc k) kind (number_given (calls_of s k) c)) (sym (whole_lines s k h)) (call_number (suc k) kind (calls_of s k) c)
 

@@ -5,10 +5,12 @@ use mathlib.Core.Path.{◌≡◌, refl, ap, ap₂, sym, ◌∙◌}
 use mathlib.Core.Bool.{Bool, true, false, not}
 use mathlib.Core.List.{List, [], ◌∷◌, ◌++◌, map, append_assoc, append-nil}
 use lib.Dec.{eqb}
+use Rattle.std.specs.Prelude.{Option, Some, None}
 use lib.IntN.{ℤ}
 use lib.ListN.{length, get_or, take, length-take}
 use lib.Seq.{take_at, drop_at}
 use native.Mathlib.Omega.{arith}
+use Rattle.std.specs.Prelude.{Option, Some, None}
 use Rattle.lists.specs.Lists.{pick, All}
 use Rattle.lists.proofs.Held.{all_map}
 use Rattle.lists.proofs.Tests.{and_yes, and_no_right}
@@ -23,9 +25,8 @@ use Rattle.planner_rules.specs.declared.entry.Entry.{Entry}
 use Rattle.reader_rules.specs.declared.reading.Found.{Found}
 use Rattle.reader_rules.specs.declared.reading.Found.TheVariants.{End, Unknown, Cut, Whole}
 use Rattle.reader_rules.specs.Records.{record_at}
-use Rattle.station_rules.specs.declared.state.Value.{Value}
-use Rattle.station_rules.specs.declared.state.Value.TheVariants.{Never, Heard}
-use Rattle.station_rules.specs.declared.state.Report.{Report}
+use Rattle.station_rules.specs.declared.state.Heard.{Heard}
+use Rattle.station_rules.specs.Answers.{Report}
 use Rattle.station_rules.specs.State.{entries_of}
 use Rattle.station_rules.specs.Calls.{reported}
 use Rattle.station_rules.specs.Planning.{next_plan}
@@ -36,7 +37,8 @@ use Rattle.station_rules.proofs.Keeping.{always_kept, request_in}
 use Rattle.stream_rules.specs.Lines.{answer_line, reply_line, entry_line, entry_lines, value_word, age_word, report_line}
 use Rattle.stream_rules.specs.Step.{Obeyed}
 use Rattle.stream_rules.specs.Run.{obeyed_at, goes_on, text_from, transcript}
-use Rattle.stream_rules.specs.Spelled.{stream_of, call_of, Prints, plain, of_plan, of_reply, of_report, prints_of, place_of, found_after, calls_of, record_lines}
+use Rattle.stream_rules.specs.Spelled.{stream_of, call_of, Prints, plain, of_plan, of_reply}
+use Rattle.stream_rules.specs.Spelled.{of_report, prints_of, place_of, found_after, calls_of, record_lines}
 use Rattle.stream_rules.specs.Spelled.{reached}
 use Rattle.stream_rules.specs.Reader.{Shown, numbers_on, shown_on, shown_in, seen, shown_to, is_entry, entries_first}
 use Rattle.stream_rules.specs.Reader.{count_by, count_on, Reading, read_whole, read_one}
@@ -153,20 +155,20 @@ plan_lines n kind tag es h =
     }
 
 -- a report's lines
-value_word_is : (v : Value) → Word (value_word v)
+value_word_is : (v : Option Heard) → Word (value_word v)
 unfolding value_word
-value_word_is Never = dash_word
-value_word_is (Heard v age) = decimal_word v
+value_word_is None = dash_word
+value_word_is (Some h) = decimal_word h.value
 
-age_word_is : (v : Value) → Word (age_word v)
+age_word_is : (v : Option Heard) → Word (age_word v)
 unfolding age_word
-age_word_is Never = dash_word
-age_word_is (Heard v age) = decimal_word age
+age_word_is None = dash_word
+age_word_is (Some h) = decimal_word h.age
 
-abbrev report_words : Value → Value → List (List ℕ)
+abbrev report_words : Option Heard → Option Heard → List (List ℕ)
 report_words ac id = value_word ac ∷ age_word ac ∷ value_word id ∷ age_word id ∷ []
 
-report_lined : (ac id : Value) → Lined (report_line ac id) (values (report_words ac id) ∷ [])
+report_lined : (ac id : Option Heard) → Lined (report_line ac id) (values (report_words ac id) ∷ [])
 unfolding report_line All
 report_lined ac id =
     line_read (report_words ac id) (value_word_is ac, (age_word_is ac, (value_word_is id, (age_word_is id, tt))))
@@ -263,7 +265,8 @@ read_on s (suc k) j m e h =
     ∙ read_found s (place_of s k) (suc k) (calls_of s k) (found_after s k) (shown_to s k) (onward j s (suc k)) refl h (onward_begins j s (suc k))
 
 -- what the records show stands in the bytes of the input and of the transcript
-pub read_off : (input : List ℕ) (k : ℕ) → reached (stream_of input) k ≡ true → (read_to (stream_of input) (transcript input) k).shown ≡ shown_to (stream_of input) k
+pub read_off : (input : List ℕ) (k : ℕ) → reached (stream_of input) k ≡ true
+    → (read_to (stream_of input) (transcript input) k).shown ≡ shown_to (stream_of input) k
 unfolding transcript place_of calls_of after
 read_off input k h =
     let s = stream_of input in

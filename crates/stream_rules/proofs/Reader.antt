@@ -20,12 +20,11 @@ use Rattle.planner_rules.specs.Plan.{Board, plan}
 use Rattle.planner_rules.specs.Demand3.{ask_of}
 use Rattle.planner_rules.specs.Told.{EntryShown, entry_shown, told_by}
 use Rattle.planner_rules.proofs.Told.{plan_told}
-use Rattle.station_rules.specs.declared.state.Value.TheVariants.{Heard}
 use Rattle.station_rules.specs.declared.state.Target.{Target}
 use Rattle.station_rules.specs.declared.state.Targets.{Targets}
 use Rattle.station_rules.specs.declared.state.Station.{Station}
-use Rattle.station_rules.specs.declared.state.Outcome.{Outcome}
-use Rattle.station_rules.specs.State.{targets_of, targets_as, is_at, place_in, in_list, target_at, fresh, with_edges, with_ac, with_id, older}
+use Rattle.station_rules.specs.Answers.{Outcome}
+use Rattle.station_rules.specs.State.{targets_of, targets_as, is_at, place_in, in_list, target_at, fresh, with_edges, with_ac, with_id, older, heard}
 use Rattle.station_rules.specs.State.{requests_of, entries_of, withdrawn, with_status, no_ask, no_entry, emptied, before_setup}
 use Rattle.station_rules.specs.Calls.{refused, leaves, new_target_checks, without, move_checks, with_moved}
 use Rattle.station_rules.specs.Planning.{ask_for, request_of, asked, board_for, next_plan}
@@ -97,7 +96,7 @@ over_targets v t k h q = rw (targets_are v t) (h q)
 said_edges : (q : Request) (f v : ℕ) (t : Target) → ask_in q (said_in f v t) ≡ ask_in q t
 said_edges q f v t = go (holds_id f)
   where
-    go : (b : Bool) → ask_in q (pick b (with_id (Heard v 0) t) (with_ac (Heard v 0) t)) ≡ ask_in q t
+    go : (b : Bool) → ask_in q (pick b (with_id (heard v 0) t) (with_ac (heard v 0) t)) ≡ ask_in q t
     go true = refl
     go false = refl
 
@@ -261,7 +260,8 @@ pub asked_read : (cs : List Call) → asked_known (known_by (shown_of cs)) ≡ a
 asked_read cs = sym (asked_known_is (after cs) (known_by (shown_of cs)) (known_is cs) (always_kept cs))
 
 -- a plan's lines tell its entries and what it leaves
-pub board_read : (cs : List Call) (tag : ℕ) → board_by (known_by (shown_of cs)) (map entry_shown (entries_of (next_plan (after cs) tag).plan)) ≡ board_for (after cs)
+pub board_read : (cs : List Call) (tag : ℕ)
+    → board_by (known_by (shown_of cs)) (map entry_shown (entries_of (next_plan (after cs) tag).plan)) ≡ board_for (after cs)
 board_read cs tag = board_made (after cs) (known_by (shown_of cs)) (known_is cs) (always_kept cs) tag
 
 -- the line of an entry
@@ -293,14 +293,16 @@ module _ (cs : List Call) where
       ∙ sym (ap (λ (x : Replied). x.buffers.output) (taken (after cs) r z).is)
 
   made_read : (c : Call) (tag : ℕ) → c ≡ calls.plan tag
-      → map ask_of (board_by (known_by (shown_of cs)) (map entry_shown (entries_made (after cs) c))).placed ≡ map ask_of (entries_of (next_plan (after cs) tag).plan)
+      → map ask_of (board_by (known_by (shown_of cs)) (map entry_shown (entries_made (after cs) c))).placed
+      ≡ map ask_of (entries_of (next_plan (after cs) tag).plan)
   made_read c tag e =
       ap (λ (x : Call). map ask_of (board_by (known_by (shown_of cs)) (map entry_shown (entries_made (after cs) x))).placed) e
       ∙ ap (λ (b : Board). map ask_of b.placed) (board_read cs tag)
       ∙ ap (map ask_of) (sym (plan_shows (after cs) tag))
 
   done_read : (c : Call) → (answer (after cs) c).number ≡ 0
-      → effect_by (λ tag. map ask_of (board_by (known_by (shown_of cs)) (map entry_shown (entries_made (after cs) c))).placed) (corrected_in (events cs)) c ≡ effect
+      → effect_by (λ tag. map ask_of (board_by (known_by (shown_of cs)) (map entry_shown (entries_made (after cs) c))).placed)
+      (corrected_in (events cs)) c ≡ effect
       (after cs) c
   done_read c z =
       same_effect _ (λ tag. map ask_of (entries_of (next_plan (after cs) tag).plan)) (corrected_in (events cs))

@@ -1,11 +1,10 @@
 -- The lines that records print: decimal numbers parted by single spaces, each line ended by a newline.
-use Rattle.std.specs.Prelude.{ℕ, suc, List, [], ◌∷◌, ◌++◌, map, ℤ}
+use Rattle.std.specs.Prelude.{ℕ, suc, List, [], ◌∷◌, ◌++◌, map, ℤ, Option, Some, None}
 use Rattle.text_rules.specs.Put.{decimal}
 use Rattle.text_rules.specs.Signed.{signed_decimal}
 use Rattle.planner_rules.specs.declared.entry.Entry.{Entry}
 use Rattle.planner_rules.specs.Exchange.{listens}
-use Rattle.station_rules.specs.declared.state.Value.{Value}
-use Rattle.station_rules.specs.declared.state.Value.TheVariants.{Never, Heard}
+use Rattle.station_rules.specs.declared.state.Heard.{Heard}
 
 -- a word and the byte behind it
 abbrev pub followed : List ℕ → ℕ → List ℕ
@@ -51,15 +50,15 @@ entry_lines k [] = []
 entry_lines k (e ∷ es) = entry_line k e ++ entry_lines (suc k) es
 
 -- AC or ID, and "-" (45) where it was never heard
-unfoldable pub value_word : Value → List ℕ
-value_word Never = 45 ∷ []
-value_word (Heard value age) = decimal value
+unfoldable pub value_word : Option Heard → List ℕ
+value_word None = 45 ∷ []
+value_word (Some h) = decimal h.value
 
 -- its age, and "-" where it was never heard
-unfoldable pub age_word : Value → List ℕ
-age_word Never = 45 ∷ []
-age_word (Heard value age) = decimal age
+unfoldable pub age_word : Option Heard → List ℕ
+age_word None = 45 ∷ []
+age_word (Some h) = decimal h.age
 
 -- AC, its age, ID, its age
-unfoldable pub report_line : Value → Value → List ℕ
+unfoldable pub report_line : Option Heard → Option Heard → List ℕ
 report_line ac id = line (value_word ac ∷ age_word ac ∷ value_word id ∷ age_word id ∷ [])

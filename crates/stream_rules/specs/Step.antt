@@ -5,8 +5,7 @@ use Rattle.parity_rules.specs.Places.{places_in}
 use Rattle.reader_rules.specs.Records.{message_length}
 use Rattle.reader_rules.specs.Fields.{setup_at, edges_at, address_at, request_at, tag_at, reply_at}
 use Rattle.station_rules.specs.declared.state.Station.{Station}
-use Rattle.station_rules.specs.declared.state.Outcome.{Outcome}
-use Rattle.station_rules.specs.declared.state.Report.{Report}
+use Rattle.station_rules.specs.Answers.{Outcome, Report}
 use Rattle.station_rules.specs.State.{entries_of}
 use Rattle.station_rules.specs.Calls.{set_up, new_target, removed, moved, requested, reported}
 use Rattle.station_rules.specs.Planning.{next_plan}

@@ -4,4 +4,4 @@
 
 mod run;
 
-pub use run::{Progress, Run};
+pub use run::Run;

@@ -1,4 +1,4 @@
-// The run of a stream, by value.
+// The run of a stream.
 use station_rules::Station;
 
 // The station, the place and the number of the next record, and whether the run goes on.
@@ -8,11 +8,4 @@ pub struct Run {
     pub at: usize,
     pub n: u32,
     pub more: bool,
-}
-
-// What a step answers: the run after it, and the place in the buffer behind its lines.
-#[derive(Clone, Copy)]
-pub struct Progress {
-    pub run: Run,
-    pub end: usize,
 }

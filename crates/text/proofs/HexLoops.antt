@@ -1,39 +1,16 @@
--- Laws of loops over hex: what is still to be put, byte by byte, and what is still to be read, digit by digit.
+-- Laws of loops over hex digits: what is still to be read, digit by digit.
 use Prim.Native.Nat.{ℕ, ◌+◌, ◌*◌, ◌≤◌, ◌<◌}
 use native.Mathlib.Numerals.{add-one}
 use native.Mathlib.Omega.{arith}
 use mathlib.Core.Path.{◌≡◌, refl, sym, ◌∙◌}
 use mathlib.Core.Bool.{Bool, true, false, false≢true}
-use mathlib.Core.List.{List, [], ◌∷◌, map}
+use mathlib.Core.List.{List, ◌∷◌}
 use lib.Seq.{drop-cons}
 use lib.ListN.{length, get_or, set, drop, drop_of_length-le}
 use lib.Dec.{ltb}
 use borrow.Author.Tests.{lt-ltb, le-ltb, ltb-true, ltb-false}
-use Rattle.text_rules.specs.Put.{laid, Put}
-use Rattle.text_rules.proofs.Laid.{Still, still_next, still_end}
-use Rattle.text_rules.specs.Hex.{hex_in, hex_of, upper_of, hex_value, all_hex, pairs}
-
--- ---- put part by part
-
-module _ (t : List ℕ) {i : ℕ} {a l m : List ℕ} {start at : ℕ} where
-  module _ (s : Still a start l (map upper_of (drop i t)) at m) where
-    pub upper_more : {b r : ℕ} {o : List ℕ} → Put (b ∷ []) at m o r → i < length t → b ≡ upper_of (get_or t i 0)
-        → Still a start l (map upper_of (drop (i + 1) t)) r o
-    upper_more p h e = still_next s (rw (drop-cons t i 0 h, add-one i)) (rw e at p)
-
-    pub upper_end : length t ≤ i → at ≤ length m → Put a start l m at
-    upper_end h k = still_end s (rw (drop_of_length-le t h)) k
-
-  module _ (s : Still a start l (hex_of (drop i t)) at m) where
-    pub hex_more : {r : ℕ} {o : List ℕ} → i < length t → Put (hex_in 2 (get_or t i 0)) at m o r → Still a start l (hex_of (drop (i + 1) t)) r o
-    unfolding hex_of
-    hex_more h p = still_next s (rw (drop-cons t i 0 h, add-one i)) p
-
-    pub hex_end : length t ≤ i → at ≤ length m → Put a start l m at
-    unfolding hex_of
-    hex_end h k = still_end s (rw (drop_of_length-le t h)) k
-
--- ---- read digit by digit
+use Rattle.text_rules.specs.Put.{laid}
+use Rattle.text_rules.specs.Hex.{hex_value, all_hex, pairs}
 
 module _ (w : List ℕ) (i : ℕ) where
   next : i < length w → drop i w ≡ get_or w i 0 ∷ drop (i + 1) w
@@ -47,30 +24,12 @@ module _ (w : List ℕ) (i : ℕ) where
   unfolding all_hex
   hex_stopped h v = rw (next h, le-ltb (hex_value (get_or w i 0)) 16 v)
 
-  pub hex_all : length w ≤ i → all_hex (drop i w) ≡ true
-  unfolding all_hex
-  hex_all h = rw (drop_of_length-le w h)
-
   value_by : (v : Bool) → ltb (hex_value (get_or w i 0)) 16 ≡ v → i < length w → all_hex (drop i w) ≡ true → hex_value (get_or w i 0) < 16
   value_by true e h a = ltb-true _ _ e
   value_by false e h a = absurd (false≢true (sym (hex_stopped h (ltb-false _ _ e)) ∙ a))
 
   pub value_small : i < length w → all_hex (drop i w) ≡ true → hex_value (get_or w i 0) < 16
   value_small h a = value_by (ltb (hex_value (get_or w i 0)) 16) refl h a
-
--- `search digits` tells whether all are hex digits, x, from what is still to be seen
-module _ (w : List ℕ) {i : ℕ} {x : Bool} (e : all_hex (drop i w) ≡ x) where
-  pub seen_all : length w ≤ i → true ≡ x
-  seen_all h = sym (hex_all w i h) ∙ e
-
-  module _ {v : ℕ} (h : i < length w) (k : v ≡ hex_value (get_or w i 0)) where
-    pub seen_none : 15 < v → false ≡ x
-    seen_none n = sym (hex_stopped w i h (omega arith)) ∙ e
-
-    pub seen_one : v ≤ 15 → all_hex (drop (i + 1) w) ≡ x
-    seen_one n = sym (hex_passed w i h (omega arith)) ∙ e
-
-pub ruleset digits = (seen_all, seen_none, seen_one)
 
 -- two digits more
 pub pair_passed : (w : List ℕ) (i : ℕ) → 2 * i + 1 < length w → all_hex (drop (2 * i) w) ≡ true

@@ -1,44 +1,35 @@
 -- Laws of a word read as a number in hex, for a loop that has come to a place of it.
-use Prim.Native.Nat.{ℕ, suc, ◌+◌, ◌-◌, ◌*◌, ◌^◌, ◌≤◌, ◌<◌}
+use Rattle.std.specs.Prelude.{Some, None}
+use Prim.Native.Nat.{ℕ, suc, ◌+◌, ◌*◌, ◌^◌, ◌≤◌, ◌<◌}
 use native.Mathlib.Numerals.{add-one}
 use native.Mathlib.Omega.{arith}
 use native.Mathlib.Nat.{pow-suc, pow-le-pow_right, zero-lt-suc}
 use mathlib.Core.Path.{◌≡◌, refl, sym, ap, ◌∙◌}
-use mathlib.Core.Bool.{Bool, true, false, not, and-false}
-use lib.Dec.{eqb}
-use mathlib.Core.List.{List, [], ◌∷◌}
-use lib.Seq.{drop-cons, take_all}
-use lib.ListN.{length, get_or, take, drop, drop_of_length-le, length-take, length-drop}
-use borrow.Author.Tests.{lt-ltb, le-ltb, le-leb, lt-leb, not-true, not-false}
-use Rattle.text_rules.specs.Line.{same_as}
-use Rattle.text_rules.specs.Plain.{plain}
-use Rattle.text_rules.specs.Number.{number_in}
+use mathlib.Core.Bool.{true, false}
+use mathlib.Core.Logic.{◌⊎◌, inl, inr}
+use mathlib.Core.List.{List, ◌∷◌}
+use lib.Seq.{drop-cons}
+use lib.ListN.{length, get_or, drop, drop_of_length-le}
+use borrow.Author.Tests.{lt-ltb, le-ltb, le-leb, lt-leb}
 use Rattle.text_rules.specs.Hex.{hex_value, all_hex}
-use Rattle.text_rules.specs.Bases.{hex_after, hex_number, number_of}
-use Rattle.text_rules.specs.declared.answer.Number.{Number}
-use Rattle.text_rules.specs.declared.answer.Number.TheVariants.{Is, Not}
+use Rattle.text_rules.specs.Bases.{hex_after, hex_number}
 use Rattle.text.proofs.HexLoops.{value_small, hex_passed}
 
--- ---- `search hex-judging` tells what the digits say
+-- ---- what digits say that are too few or too many, or not all hex
 module _ (w : List ℕ) where
-  pub hex_none : length w ≡ 0 → Not ≡ hex_number w
+  pub hex_outside : (length w ≡ 0) ⊎ (8 < length w) → None ≡ hex_number w
   unfolding hex_number
-  hex_none h = rw (le-ltb 0 (length w) (omega arith))
-
-  pub hex_long : 8 < length w → Not ≡ hex_number w
-  unfolding hex_number
-  hex_long h = rw (lt-ltb 0 (length w) (omega arith), lt-leb (length w) 8 h)
+  hex_outside (inl h) = rw (le-ltb 0 (length w) (omega arith))
+  hex_outside (inr h) = rw (lt-ltb 0 (length w) (omega arith), lt-leb (length w) 8 h)
 
   module _ (a : (length w ≡ 0) → ⊥) (b : length w ≤ 8) where
-    pub hex_other : {r : Bool} → r ≡ all_hex w → not r ≡ true → Not ≡ hex_number w
+    pub hex_other : all_hex w ≡ false → None ≡ hex_number w
     unfolding hex_number
-    hex_other {r} e h = rw (lt-ltb 0 (length w) (omega arith), le-leb (length w) 8 b, ← e, not-true r h)
+    hex_other h = rw (lt-ltb 0 (length w) (omega arith), le-leb (length w) 8 b, h)
 
-    hex_says : all_hex w ≡ true → hex_number w ≡ Is (hex_after 0 w)
+    hex_says : all_hex w ≡ true → hex_number w ≡ Some (hex_after 0 w)
     unfolding hex_number
     hex_says h = rw (lt-ltb 0 (length w) (omega arith), le-leb (length w) 8 b, h)
-
-pub ruleset hex_judging = (hex_none, hex_long, hex_other)
 
 -- i digits are read and have said v; those behind them say the rest
 pub record Came (w : List ℕ) (i v : ℕ) : Type 0 where
@@ -47,15 +38,15 @@ pub record Came (w : List ℕ) (i v : ℕ) : Type 0 where
   pub rest : all_hex (drop i w) ≡ true
   pub all : all_hex w ≡ true
 
-pub begins : (w : List ℕ) {r : Bool} → r ≡ all_hex w → not r ≡ false → Came w 0 0
-begins w {r} e h = let a = sym e ∙ not-false r h in record { says = refl; small = omega arith; rest = a; all = a }
+pub begins : (w : List ℕ) → all_hex w ≡ true → Came w 0 0
+begins w a = record { says = refl; small = omega arith; rest = a; all = a }
 
 module _ {w : List ℕ} {i v : ℕ} (c : Came w i v) where
-  pub said : length w ≤ i → (length w ≡ 0 → ⊥) → length w ≤ 8 → Is v ≡ hex_number w
+  pub said : length w ≤ i → (length w ≡ 0 → ⊥) → length w ≤ 8 → Some v ≡ hex_number w
   unfolding hex_after
   said h a b =
       let z : hex_after v (drop i w) ≡ v = rw (drop_of_length-le w h) in
-      sym (hex_says w a b c.all ∙ ap Is (sym c.says ∙ z))
+      sym (hex_says w a b c.all ∙ ap Some (sym c.says ∙ z))
 
   module _ (h : i < length w) where
     digit : hex_value (get_or w i 0) < 16
@@ -85,30 +76,3 @@ module _ {w : List ℕ} {i v : ℕ} (c : Came w i v) where
           rest = sym (hex_passed w i h digit) ∙ c.rest;
           all = c.all;
         })
-
--- ---- `search basing` tells what a word says from its first two bytes
-short_head : (w : List ℕ) → length w < 2 → same_as (take 2 w) (plain "0x") ≡ false
-unfolding same_as
-short_head [] h = refl
-short_head (b ∷ []) h = and-false (eqb b 48)
-short_head (b ∷ d ∷ w) h = absurd (omega arith)
-
-module _ (w : List ℕ) {x : Number} where
-  pub of_few : length w < 2 → x ≡ number_in 10 w → x ≡ number_of w
-  unfolding number_of
-  of_few h e = rw (short_head w h) e
-
-  module _ {r : Bool} (s : r ≡ same_as (take 2 w) (plain "0x")) where
-    pub of_decimal : not r ≡ true → x ≡ number_in 10 w → x ≡ number_of w
-    unfolding number_of
-    of_decimal h e = rw (← s, not-true r h) e
-
-    pub of_hex : not r ≡ false → x ≡ hex_number (take (length w - 2) (drop 2 w)) → x ≡ number_of w
-    unfolding number_of
-    of_hex h e = rw (← s, not-false r h) (e ∙ ap hex_number (take_all (length w - 2) (drop 2 w) (simp length-drop (omega arith))))
-
--- its first two bytes, as lending them asks
-pub two_lent : (w : List ℕ) → 2 ≤ length w → 2 ≡ length (take 2 w)
-two_lent w h = simp length-take (omega arith)
-
-pub ruleset basing = (of_few, of_decimal, of_hex)

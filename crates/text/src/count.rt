@@ -10,10 +10,8 @@ pub fn nth_word(line: &[u8], k: usize) -> Span
     ensures { NthWord line.now k result }
 {
     let mut w = word(line, 0);
-    let mut i: usize = 0;
-    while i < k {
+    for _ in 0..k {
         w = word(line, w.to);
-        i += 1;
     }
     w
 }
@@ -36,10 +34,8 @@ pub fn nth_line(s: &[u8], k: usize) -> Span
     ensures { NthLine s.now k result }
 {
     let mut at: usize = 0;
-    let mut i: usize = 0;
-    while i < k {
+    for _ in 0..k {
         at = line_after(s, line_end(s, at));
-        i += 1;
     }
     line_at(s, at)
 }

@@ -5,20 +5,14 @@ ghost use Rattle.text_rules.specs.Hex.{upper_of, hex_in, hex_of, hex_value, all_
 
 use crate::line::same;
 use crate::put::put_byte;
-use text_rules::Hex;
 
 // Two upper-case digits for each byte.
 pub fn put_hex(out: &mut [u8], at: usize, bytes: &[u8]) -> usize
     ensures { Put (hex_of bytes.now) at out.old out.new result }
 {
-    if out.len() <= at {
-        return out.len();
-    }
-    let mut next = at;
-    let mut i: usize = 0;
-    while i < bytes.len() {
-        next = put_digits(out, next, bytes[i] as u32, 2);
-        i += 1;
+    let mut next = at.min(out.len());
+    for &b in bytes {
+        next = put_digits(out, next, b as u32, 2);
     }
     next
 }
@@ -44,14 +38,9 @@ fn put_digits(out: &mut [u8], at: usize, n: u32, width: usize) -> usize
 fn put_upper(out: &mut [u8], at: usize, t: &[u8]) -> usize
     ensures { Put (map upper_of t.now) at out.old out.new result }
 {
-    if out.len() <= at {
-        return out.len();
-    }
-    let mut next = at;
-    let mut i: usize = 0;
-    while i < t.len() {
-        next = put_byte(out, next, upper(t[i]));
-        i += 1;
+    let mut next = at.min(out.len());
+    for &b in t {
+        next = put_byte(out, next, upper(b));
     }
     next
 }
@@ -64,41 +53,25 @@ fn upper(b: u8) -> u8
 }
 
 // The bytes that a word says, at the front of out: two digits for each, at most 32 bytes, and "-" for none.
-pub fn hex_bytes(word: &[u8], out: &mut [u8; 32]) -> Hex
+pub fn hex_bytes(word: &[u8], out: &mut [u8; 32]) -> Option<usize>
     ensures { HexRead word.now out.old out.new result }
 {
     if same(word, b"-") {
-        return Hex::Bytes(0);
+        return Some(0);
     }
-    if word.len() == 0 {
-        return Hex::Not;
-    }
-    if 64 < word.len() {
-        return Hex::Not;
-    }
-    if word.len() % 2 != 0 {
-        return Hex::Not;
-    }
-    if !all_hex(word) {
-        return Hex::Not;
+    if word.is_empty() || 64 < word.len() || word.len() % 2 != 0 || !all_hex(word) {
+        return None;
     }
     let n = word.len() / 2;
     fill(word, out, n);
-    Hex::Bytes(n)
+    Some(n)
 }
 
 // Every byte of the word is a hex digit.
 pub(crate) fn all_hex(word: &[u8]) -> bool
     ensures { result ≡ all_hex word.now }
 {
-    let mut i: usize = 0;
-    while i < word.len() {
-        if 15 < hex_value(word[i]) {
-            return false;
-        }
-        i += 1;
-    }
-    true
+    word.iter().all(|&b| hex_value(b) < 16)
 }
 
 // The n bytes that 2n digits say.
@@ -106,12 +79,10 @@ fn fill(word: &[u8], out: &mut [u8; 32], n: usize)
     requires { (length word.now ≡ 2 * n) × (n ≤ 32) × (all_hex word.now ≡ true) }
     ensures { out.new ≡ laid (pairs word.now) 0 out.old }
 {
-    let mut i: usize = 0;
-    while i < n {
+    for i in 0..n {
         let high = hex_value(word[2 * i]);
         let low = hex_value(word[2 * i + 1]);
         out[i] = high * 16 + low;
-        i += 1;
     }
 }
 

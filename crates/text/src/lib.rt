@@ -18,4 +18,4 @@ pub use numbers::number;
 pub use pieces::gather;
 pub use put::{put_byte, put_bytes, put_decimal};
 pub use signed::{integer_of, put_signed};
-pub use text_rules::{Gathered, Hex, Integer, Number, Span};
+pub use text_rules::{Gathered, Span};

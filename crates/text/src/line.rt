@@ -8,12 +8,10 @@ use text_rules::Span;
 pub fn line_end(s: &[u8], at: usize) -> usize
     ensures { LineTo s.now at result }
 {
-    let mut i = at;
-    while i < s.len() {
+    for i in at..s.len() {
         if s[i] == 10 {
             return i;
         }
-        i += 1;
     }
     s.len()
 }
@@ -72,12 +70,10 @@ fn is_blank(b: u8) -> bool
 fn blanks_end(line: &[u8], at: usize) -> usize
     ensures { result ≡ run_end blank line.now at }
 {
-    let mut i = at;
-    while i < line.len() {
+    for i in at..line.len() {
         if !is_blank(line[i]) {
             return i;
         }
-        i += 1;
     }
     line.len()
 }
@@ -86,12 +82,10 @@ fn blanks_end(line: &[u8], at: usize) -> usize
 fn word_end(line: &[u8], at: usize) -> usize
     ensures { result ≡ run_end in_word line.now at }
 {
-    let mut i = at;
-    while i < line.len() {
+    for i in at..line.len() {
         if is_blank(line[i]) {
             return i;
         }
-        i += 1;
     }
     line.len()
 }

@@ -2,33 +2,19 @@
 ghost use Rattle.std.specs.Prelude.{◌≡◌};
 ghost use Rattle.text_rules.specs.Number.{number_in};
 
-use text_rules::Number;
-
 // The number that a word of one to most decimal digits says, if it is below 2^32; leading zeros count as digits.
-pub fn number(word: &[u8], most: usize) -> Number
+pub fn number(word: &[u8], most: usize) -> Option<u32>
     ensures { result ≡ number_in most word.now }
 {
-    if word.len() == 0 {
-        return Number::Not;
+    if word.is_empty() || most < word.len() {
+        return None;
     }
-    if most < word.len() {
-        return Number::Not;
+    let mut value: u32 = 0;
+    for &b in word {
+        if !b.is_ascii_digit() {
+            return None;
+        }
+        value = value.checked_mul(10)?.checked_add((b - b'0') as u32)?;
     }
-    let mut value: u64 = 0;
-    let mut i: usize = 0;
-    while i < word.len() {
-        let b = word[i];
-        if b < 48 {
-            return Number::Not;
-        }
-        if 57 < b {
-            return Number::Not;
-        }
-        value = value * 10 + (b - 48) as u64;
-        if 4294967295 < value {
-            return Number::Not;
-        }
-        i += 1;
-    }
-    Number::Is(value as u32)
+    Some(value)
 }

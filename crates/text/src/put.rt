@@ -17,14 +17,9 @@ pub fn put_byte(out: &mut [u8], at: usize, b: u8) -> usize
 pub fn put_bytes(out: &mut [u8], at: usize, t: &[u8]) -> usize
     ensures { Put t.now at out.old out.new result }
 {
-    if out.len() <= at {
-        return out.len();
-    }
-    let mut next = at;
-    let mut i: usize = 0;
-    while i < t.len() {
-        next = put_byte(out, next, t[i]);
-        i += 1;
+    let mut next = at.min(out.len());
+    for &b in t {
+        next = put_byte(out, next, b);
     }
     next
 }

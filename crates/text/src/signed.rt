@@ -6,7 +6,6 @@ ghost use Rattle.text_rules.specs.Signed.{signed_decimal, upward, downward, inte
 use crate::bases::number_of;
 use crate::numbers::number;
 use crate::put::{put_decimal, put_minus};
-use text_rules::{Integer, Number};
 
 // The decimal digits of z, after a minus sign where it is below zero.
 pub fn put_signed(out: &mut [u8], at: usize, z: i32) -> usize
@@ -21,48 +20,25 @@ pub fn put_signed(out: &mut [u8], at: usize, z: i32) -> usize
 }
 
 // A number without a minus sign.
-fn up(n: Number) -> Integer
+fn up(n: Option<u32>) -> Option<i32>
     ensures { result ≡ upward n }
 {
-    match n {
-        Number::Is(v) => {
-            if v < 0x8000_0000 {
-                return Integer::Is(v as i32);
-            }
-            Integer::Not
-        }
-        Number::Not => Integer::Not,
-    }
+    i32::try_from(n?).ok()
 }
 
 // A number behind a minus sign.
-fn down(n: Number) -> Integer
+fn down(n: Option<u32>) -> Option<i32>
     ensures { result ≡ downward n }
 {
-    match n {
-        Number::Is(v) => {
-            if v == 0 {
-                return Integer::Is(0);
-            }
-            if v <= 0x8000_0000 {
-                let less = (v - 1) as i32;
-                return Integer::Is(0 - less - 1);
-            }
-            Integer::Not
-        }
-        Number::Not => Integer::Not,
-    }
+    0i32.checked_sub_unsigned(n?)
 }
 
 // The number with its sign that a word says: a minus sign and at most ten decimal digits, or a number without a sign.
-pub fn integer_of(word: &[u8]) -> Integer
+pub fn integer_of(word: &[u8]) -> Option<i32>
     ensures { result ≡ integer_of word.now }
 {
-    if word.len() == 0 {
-        return Integer::Not;
+    match word.strip_prefix(b"-") {
+        Some(digits) => down(number(digits, 10)),
+        None => up(number_of(word)),
     }
-    if word[0] == 45 {
-        return down(number(&word[1..], 10));
-    }
-    up(number_of(word))
 }

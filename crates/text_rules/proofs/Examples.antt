@@ -1,11 +1,11 @@
 -- Worked examples, computed: what the definitions give, and what is meant. Numbers of bytes are those of ASCII.
+use Rattle.std.specs.Prelude.{Option, Some, None}
 use Prim.Native.Nat.{ℕ}
 use native.Mathlib.Omega.{arith}
 use mathlib.Core.Path.{◌≡◌, refl}
 use mathlib.Core.Bool.{true, false}
 use mathlib.Core.List.{List, [], ◌∷◌, map}
-use mathlib.Core.Option.{some, none}
-use lib.IntN.{pos, negsuc}
+use lib.IntN.{ℤ, pos, negsuc}
 use lib.ListN.{replicate}
 use Rattle.text_rules.specs.Put.{decimal_in, decimal, numbers_behind, laid, Put}
 use Rattle.text_rules.specs.Signed.{signed_decimal, upward, downward, integer_of}
@@ -15,9 +15,6 @@ use Rattle.text_rules.specs.Number.{between, is_digit, all_digits, value_after, 
 use Rattle.text_rules.specs.Hex.{hex_digit, hex_in, hex_of, hex_value, all_hex, pairs, is_hex, bytes_in}
 use Rattle.text_rules.specs.Bases.{hex_after, hex_number, number_of}
 use Rattle.text_rules.specs.Plain.{plain}
-use Rattle.text_rules.specs.declared.answer.Number.TheVariants.{Is, Not}
-use Rattle.text_rules.specs.declared.answer.Integer.{Integer}
-use Rattle.text_rules.specs.declared.answer.Integer.TheVariants as integer
 
 quoted : plain "Az 0#\n" ≡ 65 ∷ 122 ∷ 32 ∷ 48 ∷ 35 ∷ 10 ∷ []
 quoted = refl
@@ -127,50 +124,50 @@ names = (refl, refl, refl, refl)
 -- ---- numbers
 
 -- leading zeros count as digits
-digits : (number_in 9 (plain "000000007") ≡ Is 7) × (number_in 9 (plain "0000000007") ≡ Not)
-    × (number_in 9 [] ≡ Not) × (number_in 9 (plain "7a") ≡ Not)
+digits : (number_in 9 (plain "000000007") ≡ Some 7) × (number_in 9 (plain "0000000007") ≡ None)
+    × (number_in 9 [] ≡ None) × (number_in 9 (plain "7a") ≡ None)
 unfolding number_in all_digits is_digit between value_after
 digits = (refl, refl, refl, refl)
 
-two_to_the_32 : (number_in 10 (plain "4294967295") ≡ Is 4294967295) × (number_in 10 (plain "4294967296") ≡ Not)
+two_to_the_32 : (number_in 10 (plain "4294967295") ≡ Some 4294967295) × (number_in 10 (plain "4294967296") ≡ None)
 unfolding number_in all_digits is_digit between value_after
 two_to_the_32 = (refl, refl)
 
 -- decimal without a sign before it, hex behind `0x`, of either case, one to eight digits
-in_either_base : (number_of (plain "4294967295") ≡ Is 4294967295) × (number_of (plain "0") ≡ Is 0) × (number_of (plain "0x484fDE") ≡ Is 4739038)
-    × (number_of (plain "0x10") ≡ Is 16) × (number_of (plain "0xFFFFFFFF") ≡ Is 4294967295) × (number_of (plain "0x000000001") ≡ Not)
-    × (number_of (plain "0x") ≡ Not) × (number_of (plain "0xG") ≡ Not) × (number_of (plain "0X1") ≡ Not) × (number_of (plain "FF") ≡ Not)
+in_either_base : (number_of (plain "4294967295") ≡ Some 4294967295) × (number_of (plain "0") ≡ Some 0) × (number_of (plain "0x484fDE") ≡ Some 4739038)
+    × (number_of (plain "0x10") ≡ Some 16) × (number_of (plain "0xFFFFFFFF") ≡ Some 4294967295) × (number_of (plain "0x000000001") ≡ None)
+    × (number_of (plain "0x") ≡ None) × (number_of (plain "0xG") ≡ None) × (number_of (plain "0X1") ≡ None) × (number_of (plain "FF") ≡ None)
 unfolding number_of hex_number hex_after hex_value all_hex same_as number_in all_digits is_digit between value_after
 in_either_base = (refl, refl, refl, refl, refl, refl, refl, refl, refl, refl)
 
 -- ---- bytes
 
 -- digits of either case; an odd number of them, or none, say no bytes
-bytes : (bytes_in (plain "8d406B") ≡ some (0x8D ∷ 0x40 ∷ 0x6B ∷ [])) × (bytes_in (plain "8d4") ≡ none)
-    × (bytes_in [] ≡ none) × (bytes_in (plain "8G") ≡ none)
+bytes : (bytes_in (plain "8d406B") ≡ Some (0x8D ∷ 0x40 ∷ 0x6B ∷ [])) × (bytes_in (plain "8d4") ≡ None)
+    × (bytes_in [] ≡ None) × (bytes_in (plain "8G") ≡ None)
 unfolding bytes_in is_hex all_hex hex_value is_digit between pairs same_as
 bytes = (refl, refl, refl, refl)
 
 -- "-" says none of them
-no_bytes : bytes_in (plain "-") ≡ some []
+no_bytes : bytes_in (plain "-") ≡ Some []
 unfolding bytes_in is_hex all_hex hex_value is_digit between pairs same_as
 no_bytes = refl
 
 -- 32 bytes at most
-most_bytes : (bytes_in (replicate 64 48) ≡ some (replicate 32 0)) × (bytes_in (replicate 66 48) ≡ none)
+most_bytes : (bytes_in (replicate 64 48) ≡ Some (replicate 32 0)) × (bytes_in (replicate 66 48) ≡ None)
 unfolding bytes_in is_hex all_hex hex_value is_digit between pairs same_as
 most_bytes = (refl, refl)
 
 -- ---- a number with its sign: to both ends of 32 bits and one beyond, 0 with a sign, hex without one, and what says none
-abbrev signs : List (List ℕ) → List Integer
+abbrev signs : List (List ℕ) → List (Option ℤ)
 signs ws = map integer_of ws
 
 signed-words :
     (signs (plain "36000" ∷ plain "-1200" ∷ plain "-0" ∷ plain "0x8CA0" ∷ [])
-    ≡ integer.Is (pos 36000) ∷ integer.Is (negsuc 1199) ∷ integer.Is (pos 0) ∷ integer.Is (pos 36000) ∷ [])
+    ≡ Some (pos 36000) ∷ Some (negsuc 1199) ∷ Some (pos 0) ∷ Some (pos 36000) ∷ [])
     × (signs (plain "2147483647" ∷ plain "0x7FFFFFFF" ∷ plain "-2147483648" ∷ [])
-    ≡ integer.Is (pos 2147483647) ∷ integer.Is (pos 2147483647) ∷ integer.Is (negsuc 2147483647) ∷ [])
-    × (signs (plain "2147483648" ∷ plain "0x80000000" ∷ plain "-2147483649" ∷ plain "-00000000001" ∷ []) ≡ replicate 4 integer.Not)
-    × (signs (plain "-0x10" ∷ plain "-" ∷ plain "--1" ∷ plain "+1" ∷ plain "1-" ∷ [] ∷ []) ≡ replicate 6 integer.Not)
+    ≡ Some (pos 2147483647) ∷ Some (pos 2147483647) ∷ Some (negsuc 2147483647) ∷ [])
+    × (signs (plain "2147483648" ∷ plain "0x80000000" ∷ plain "-2147483649" ∷ plain "-00000000001" ∷ []) ≡ replicate 4 None)
+    × (signs (plain "-0x10" ∷ plain "-" ∷ plain "--1" ∷ plain "+1" ∷ plain "1-" ∷ [] ∷ []) ≡ replicate 6 None)
 unfolding integer_of upward downward number_of hex_number hex_after number_in all_digits value_after is_digit between all_hex hex_value same_as
 signed-words = (refl, refl, refl, refl)

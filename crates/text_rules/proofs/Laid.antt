@@ -6,8 +6,8 @@ use native.Mathlib.Omega.{arith, min_cases}
 use mathlib.Core.Path.{◌≡◌, refl, sym, ap, ◌∙◌}
 use mathlib.Core.List.{List, [], ◌∷◌, ◌++◌}
 use mathlib.Core.Bool.{Bool, true, false}
-use lib.Seq.{sets, sets-eq, set_out, take_at, take-suc, take_all}
-use lib.ListN.{length, get_or, set, take, drop, length-set, length-append, length-take}
+use lib.Seq.{sets, sets-eq, set_out, take_at, drop-cons}
+use lib.ListN.{length, get_or, set, take, drop, length-set, length-append, length-take, drop_of_length-le}
 use Rattle.lists.specs.Lists.{pick}
 use Rattle.text_rules.specs.Put.{laid, Put}
 
@@ -55,6 +55,11 @@ pub put_none : (at : ℕ) (l : List ℕ) → at ≤ length l → Put [] at l l a
 unfolding laid
 put_none at l h = record { next = omega arith; text = refl }
 
+-- nothing yet, from a place that may be beyond the end
+pub put_from : {at r : ℕ} (l : List ℕ) → r ≡ min at (length l) → Put [] at l l r
+unfolding laid
+put_from l e = record { next = omega arith; text = refl }
+
 pub put_one : (b at : ℕ) (l : List ℕ) → at < length l → Put (b ∷ []) at l (set l at b) (at + 1)
 unfolding laid
 put_one b at l h = record { next = omega arith; text = refl }
@@ -89,16 +94,6 @@ module _ (x y : List ℕ) {b : Bool} {at r : ℕ} {l m : List ℕ} where
 
 pub ruleset laying = (put_then, put_taken, put_left)
 
--- ---- bytes put one by one
-
--- a byte more at the end of the front, and all of them
-module _ (t : List ℕ) (i : ℕ) {at r : ℕ} {l m : List ℕ} (p : Put (take i t) at l m r) where
-  pub front_more : {q : ℕ} {o : List ℕ} → Put (get_or t i 0 ∷ []) r m o q → i < length t → Put (take (i + 1) t) at l o q
-  front_more x h = rw (add-one, take-suc t i 0 h) (put_then p x)
-
-  pub front_all : length t ≤ i → Put t at l m r
-  front_all h = rw (take_all i t h) at p
-
 -- ---- parts put one after the other: `rest` is what is still to be put
 
 -- whoever puts the rest at the place at into m has put all of t at the place start into l
@@ -108,6 +103,9 @@ pub record Still (t : List ℕ) (start : ℕ) (l : List ℕ) (rest : List ℕ) (
 
 pub still_first : (t : List ℕ) (start : ℕ) (l : List ℕ) → Still t start l t start l
 still_first t start l = record { whole = λ o q p. p; same = refl }
+
+pub still_from : (t : List ℕ) {start at : ℕ} (l : List ℕ) → at ≡ min start (length l) → Still t start l t at l
+still_from t l e = record { whole = λ o q p. put_then (put_from l e) p; same = refl }
 
 module _ {t : List ℕ} {start : ℕ} {l rest : List ℕ} {at : ℕ} {m : List ℕ} (s : Still t start l rest at m) where
   pub still_next : {a b o : List ℕ} {r : ℕ} → rest ≡ a ++ b → Put a at m o r → Still t start l b r o
@@ -119,6 +117,16 @@ module _ {t : List ℕ} {start : ℕ} {l rest : List ℕ} {at : ℕ} {m : List �
 
   pub still_last : {a o : List ℕ} {q : ℕ} → rest ≡ a → Put a at m o q → Put t start l o q
   still_last e p = s.whole _ _ (rw e p)
+
+-- the texts of the elements of a list, one after the other, in a loop that has come to place i
+module _ {A : Type 0} (part : A → List ℕ) (all : List A → List ℕ) where
+  module _ {t : List ℕ} {start : ℕ} {l : List ℕ} (xs : List A) (i : ℕ) {at : ℕ} {m : List ℕ} (s : Still t start l (all (drop i xs)) at m) where
+    pub each_more : ((x : A) (xs : List A) → all (x ∷ xs) ≡ part x ++ all xs) → (d : A) {r : ℕ} {o : List ℕ} → i < length xs
+        → Put (part (get_or xs i d)) at m o r → Still t start l (all (drop (i + 1) xs)) r o
+    each_more step d h p = still_next s (rw (drop-cons xs i d h, add-one i) (step _ _)) p
+
+    pub each_all : all [] ≡ [] → length xs ≤ i → at ≤ length m → Put t start l m at
+    each_all e h k = still_end s (rw (drop_of_length-le xs {i = i} h) e) k
 
 -- ---- what stands in the buffer then
 

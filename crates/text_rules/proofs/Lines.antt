@@ -1,14 +1,12 @@
 -- Laws of lines: the line at a place and the lines after it, for a run over all lines of an input.
-use Prim.Native.Nat.{ℕ, zero, suc, ◌+◌, ◌-◌, ◌≤◌, ◌<◌, min}
+use Prim.Native.Nat.{ℕ, suc, ◌+◌, ◌-◌, ◌≤◌, ◌<◌, min}
 use native.Mathlib.Omega.{arith}
 use mathlib.Core.Path.{◌≡◌, refl, sym, ap, ◌∙◌}
 use mathlib.Core.List.{List, [], ◌∷◌}
 use mathlib.Core.Bool.{Bool, true, false, not}
 use lib.Seq.{drop-cons, drop-drop, get_or-drop, get_or-take}
 use lib.ListN.{length, get_or, take, drop, length-drop, length-take, drop_of_length-le}
-use lib.Dec.{ltb}
-use borrow.Author.Tests.{ltb-true, ltb-false, not-true, eq-eqb, ne_eqb}
-use Rattle.lists.specs.Lists.{pick}
+use borrow.Author.Tests.{not-true, eq-eqb, ne_eqb}
 use Rattle.text_rules.specs.Line.{newline, in_line, grown, parts, lines_of, front, run_end, line_end, line_at, line_span, within, LineTo, LineHeld}
 use Rattle.text_rules.proofs.Runs.{front_more, front_stop, run_is, run_fits, run_inside}
 

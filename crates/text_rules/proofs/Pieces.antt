@@ -3,20 +3,20 @@ use Prim.Native.Nat.{ℕ, zero, suc, ◌+◌, ◌-◌, ◌≤◌, ◌<◌, min}
 use native.Mathlib.Omega.{arith}
 use mathlib.Core.Path.{◌≡◌, refl, sym, ap, ap₂, subst, ◌∙◌}
 use mathlib.Core.List.{List, [], ◌∷◌, ◌++◌, append_assoc, append-nil}
-use mathlib.Core.Bool.{Bool, true, false, not, true≢false}
+use mathlib.Core.Bool.{Bool, true, false}
 use borrow.Author.Tests.{ltb-true, ltb-false}
 use lib.Dec.{ltb}
 use lib.Seq.{drop-drop, take_all, take-length, take-suc-set, set_out, take-append_seam}
 use lib.ListN.{length, get_or, set, take, drop, length-drop, length-take, length-set}
-use Rattle.lists.specs.Lists.{pick, All}
-use Rattle.lists.proofs.Held.{all_nil, all_cons, all_append}
+use Rattle.lists.specs.Lists.{All}
+use Rattle.lists.proofs.Held.{all_nil, all_append}
 use Rattle.text_rules.specs.declared.answer.Span.{Span}
 use Rattle.text_rules.specs.declared.answer.Gathered.{Gathered}
 use Rattle.text_rules.specs.Put.{laid, Put}
-use Rattle.text_rules.specs.Line.{newline, in_line, grown, parts, lines_of, front, run_end, line_end, line_after, line_at, within, LineHeld}
+use Rattle.text_rules.specs.Line.{newline, in_line, grown, parts, lines_of, front, line_end, line_after, line_at, within, LineHeld}
 use Rattle.text_rules.specs.Pieces.{last_line, together, Gathers}
 use Rattle.text_rules.proofs.Laid.{laid_out, put_of, put_inside, put_count, put_same}
-use Rattle.text_rules.proofs.Runs.{front_more, front_stop, front_fits, run_is}
+use Rattle.text_rules.proofs.Runs.{front_more, front_stop, run_is}
 
 -- ---- a line begun: no newline stands in it
 abbrev Inside : ℕ → Type 0

@@ -87,9 +87,13 @@ module _ (line : List ℕ) (at : ℕ) where
   unfolding within
   word_length = simp (length-take, length-drop) (omega (arith, word_to))
 
-  pub word_at_is : (k : ℕ) → k < (word_at line at).to - (word_at line at).from → get_or (within line (word_at line at)) k 0 ≡ get_or line ((word_at line at).from + k) 0
+  pub word_at_is : (k : ℕ) → k < (word_at line at).to - (word_at line at).from
+      → get_or (within line (word_at line at)) k 0 ≡ get_or line ((word_at line at).from + k) 0
   unfolding within
-  word_at_is k h = rw (get_or-take ((word_at line at).to - (word_at line at).from) (drop (word_at line at).from line) k 0 h, get_or-drop (word_at line at).from line k 0)
+  word_at_is k h = rw (
+    get_or-take ((word_at line at).to - (word_at line at).from) (drop (word_at line at).from line) k 0 h,
+    get_or-drop (word_at line at).from line k 0,
+  )
 
   pub words_from : words_of (drop at line) ≡ words_of (drop (word_at line at).from line)
   words_from =
@@ -98,7 +102,8 @@ module _ (line : List ℕ) (at : ℕ) where
       (λ h e. rw (from_is, run_is blank line at h, ← drop-drop (front blank (drop at line)) at line) (words_skip (drop at line)))
 
   -- the words from a place on: the one that the span holds, and those from behind it on
-  pub words_next : (word_at line at).from < (word_at line at).to → words_of (drop at line) ≡ within line (word_at line at) ∷ words_of (drop (word_at line at).to line)
+  pub words_next : (word_at line at).from < (word_at line at).to
+      → words_of (drop at line) ≡ within line (word_at line at) ∷ words_of (drop (word_at line at).to line)
   unfolding within
   words_next h =
       let f : ℕ = (word_at line at).from in

@@ -1,9 +1,7 @@
 -- Bytes in hex: made in upper case, and read in either.
 use Rattle.std.specs.Prelude.{ℕ, zero, suc, ◌+◌, ◌-◌, ◌*◌, ◌/◌, ◌%◌, ◌≡◌, List, [], ◌∷◌, ◌++◌, Bool, true, ◌&&◌, leb, ltb, eqb, length}
-use Rattle.std.proofs.Math.Option.{Option, some, none}
+use Rattle.std.specs.Prelude.{Option, Some, None, option_map}
 use Rattle.lists.specs.Lists.{pick}
-use Rattle.text_rules.specs.declared.answer.Hex.{Hex}
-use Rattle.text_rules.specs.declared.answer.Hex.TheVariants.{Bytes, Not}
 use Rattle.text_rules.specs.Put.{laid}
 use Rattle.text_rules.specs.Line.{same_as}
 use Rattle.text_rules.specs.Number.{between, is_digit}
@@ -51,18 +49,14 @@ is_hex w = ltb 0 (length w) && leb (length w) 64 && eqb (length w % 2) 0 && all_
 
 -- the bytes that a word says, and `-` for none
 unfoldable pub bytes_in : List ℕ → Option (List ℕ)
-bytes_in w = pick (same_as w (45 ∷ [])) (some []) (pick (is_hex w) (some (pairs w)) none)
-
-unfoldable pub hex_answer : Option (List ℕ) → Hex
-hex_answer (some bs) = Bytes (length bs)
-hex_answer none = Not
+bytes_in w = pick (same_as w (45 ∷ [])) (Some []) (pick (is_hex w) (Some (pairs w)) None)
 
 -- the bytes at the front of the buffer; where there are none, the buffer as it was
 unfoldable pub filled : Option (List ℕ) → List ℕ → List ℕ
-filled (some bs) l = laid bs 0 l
-filled none l = l
+filled (Some bs) l = laid bs 0 l
+filled None l = l
 
 -- a call read the word w, answered how many bytes it says, and laid them at the buffer's front
-pub record HexRead (w before after : List ℕ) (r : Hex) : Type 0 where
-  pub answer : r ≡ hex_answer (bytes_in w)
+pub record HexRead (w before after : List ℕ) (r : Option ℕ) : Type 0 where
+  pub answer : r ≡ option_map length (bytes_in w)
   pub buffer : after ≡ filled (bytes_in w) before

@@ -1,8 +1,6 @@
 -- A word as a decimal number.
-use Rattle.std.specs.Prelude.{ℕ, ◌+◌, ◌-◌, ◌*◌, ◌^◌, List, [], ◌∷◌, Bool, true, ◌&&◌, leb, ltb, length}
+use Rattle.std.specs.Prelude.{ℕ, ◌+◌, ◌-◌, ◌*◌, ◌^◌, List, [], ◌∷◌, Bool, true, ◌&&◌, leb, ltb, length, Option, Some, None}
 use Rattle.lists.specs.Lists.{pick}
-use Rattle.text_rules.specs.declared.answer.Number.{Number}
-use Rattle.text_rules.specs.declared.answer.Number.TheVariants.{Is, Not}
 
 unfoldable pub between : ℕ → ℕ → ℕ → Bool
 between low high b = leb low b && leb b high
@@ -20,6 +18,6 @@ value_after v [] = v
 value_after v (b ∷ w) = value_after (v * 10 + (b - 48)) w
 
 -- a word of one to most decimal digits, leading zeros counted, whose value is below 2^32
-unfoldable pub number_in : ℕ → List ℕ → Number
+unfoldable pub number_in : ℕ → List ℕ → Option ℕ
 number_in most w =
-    pick (ltb 0 (length w) && leb (length w) most && all_digits w && ltb (value_after 0 w) (2 ^ 32)) (Is (value_after 0 w)) Not
+    pick (ltb 0 (length w) && leb (length w) most && all_digits w && ltb (value_after 0 w) (2 ^ 32)) (Some (value_after 0 w)) None

@@ -7,27 +7,6 @@ pub struct Span {
     pub to: usize,
 }
 
-// What a word says as a decimal number.
-#[derive(Clone, Copy)]
-pub enum Number {
-    Is(u32),
-    Not,
-}
-
-// What a word says as a number with its sign.
-#[derive(Clone, Copy)]
-pub enum Integer {
-    Is(i32),
-    Not,
-}
-
-// What a word says as bytes in hex: how many they are.
-#[derive(Clone, Copy)]
-pub enum Hex {
-    Bytes(usize),
-    Not,
-}
-
 // A piece of the input was taken up to the end of a line or of the piece: how many bytes of the line are held, the next place in the piece, and
 // whether the line ended.
 #[derive(Clone, Copy)]

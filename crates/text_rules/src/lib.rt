@@ -3,4 +3,4 @@
 
 mod answer;
 
-pub use answer::{Gathered, Hex, Integer, Number, Span};
+pub use answer::{Gathered, Span};

@@ -53,7 +53,9 @@ case-p1 :
     × (transcript (case 2)
     ≡ plain "1 1 0\n2 2 0\n3 2 0\n4 2 0\n5 4 0\n6 4 0\n7 4 0\n8 5 0\n0 0 1 0 2530 3022\n1 0 2 135 1665 1927\n2 1 2 1927 3457 3719\n9 8 0\n- - - -\n")
 unfolding checked every count_of index_of filter over total decimal_in decimal sent_for reply_for apart clear clear_of fits first place shares_fit setup_number
-    tried pass alone turns plan selective_ranged body_length number_at record_at eight_at before_setup emptied set_up target_ranged request_ranged unit_full new_target
-    requested reported asked board_for next_plan line answer_line entry_line entry_lines value_word age_word report_line obeyed obeyed_at goes_on next_place text_from
+    tried pass alone turns plan selective_ranged body_length number_at record_at eight_at before_setup emptied set_up target_ranged request_ranged
+    unit_full new_target
+    requested reported asked board_for next_plan line answer_line entry_line entry_lines value_word age_word report_line obeyed obeyed_at goes_on
+    next_place text_from
     transcript
 case-p1 = (refl, refl)

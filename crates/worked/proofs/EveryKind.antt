@@ -88,7 +88,8 @@ prints =
     ++ plain "15 8 0\n- - 4321 1\n16 9 4\n"
 
 runs : transcript every_kind ≡ prints
-unfolding checked every count_of index_of filter over total decimal_in decimal signed_decimal bits xor_bits shift_in divide remainder_of syndrome size_of subsets
+unfolding checked every count_of index_of filter over total decimal_in decimal signed_decimal bits xor_bits shift_in divide remainder_of syndrome
+    size_of subsets
     xor_of matching flipped sent_for reply_for apart clear clear_of fits first place shares_fit setup_number plans.tried plans.pass plans.alone plans.turns
     plans.plan head_of drawn selective_ranged body_length message_length number_at record_at eight_at state.before_setup state.emptied set_up target_ranged
     request_ranged unit_full new_target without removed moved requested reported asked board_for next_plan expected value_in start_of in_window targets_heard

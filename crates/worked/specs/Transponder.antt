@@ -7,7 +7,7 @@ use Rattle.parity_rules.specs.Messages.{AreBytes}
 use Rattle.frames_rules.specs.Building as frames
 use Rattle.frames_rules.specs.Fields.{bits_to, in_field}
 use Rattle.frames_rules.specs.Reading.{read_down}
-use Rattle.model_rules.specs.declared.state.Sent.{Sent}
+use Rattle.model_rules.specs.Answers.{Sent}
 use Rattle.model_rules.specs.Calls.{making, queuing, taking}
 use Rattle.model_rules.specs.History as history
 use Rattle.model_rules.specs.History.{Aircraft, Call, after}

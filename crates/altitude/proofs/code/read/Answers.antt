@@ -2,7 +2,8 @@
 use Prim.Native.Nat.{ℕ, ◌+◌, ◌*◌, ◌≤◌}
 use native.Mathlib.Omega.{arith}
 use mathlib.Core.Path.{◌≡◌, sym, ap, ◌∙◌}
-use lib.IntN.{sub_ℕ}
+use Rattle.std.specs.Prelude.{Ok}
+use lib.IntN.{ℤ, sub_ℕ}
 use Rattle.lists.proofs.Signed.{minus_kept}
 use Rattle.altitude_rules.specs.Code.{M, Q, group, hundreds, five_hundreds, feet_by_25, feet_by_100}
 use Rattle.altitude_rules.specs.declared.code.Altitude.TheVariants.{Feet}
@@ -39,7 +40,7 @@ returns-then-bit-eq1-2 c =
     let q = c in
     let n = c.eleven_bits in
     altitude_told_is ac _
-    (ap Feet
+    (ap (λ (z : ℤ). Ok (Feet z))
     (minus_kept (25 * n.result) 1000 (omega arith) (omega arith) c.signed.result c.signed.ensures ∙ ap (λ (k : ℕ). sub_ℕ (25 * k) 1000) n.ensures.0)
     ∙ says_by25 ac (in-range search) (not-zero search) (not-metric search) (sym q.bit-2.ensures.0 ∙ q.if-bit-eq1-2.true))
 
@@ -62,7 +63,7 @@ returns c =
     let up : 500 * n.result + 100 * h.result ≡ 500 * five_hundreds ac + 100 * hundreds (five_hundreds ac) (group ac) =
     simp (h.ensures.0, n.ensures.0, p.pattern-c.ensures.0) in
     altitude_told_is ac _
-    (ap Feet
+    (ap (λ (z : ℤ). Ok (Feet z))
     (minus_kept (500 * n.result + 100 * h.result) 1300 (omega arith) (omega arith) c.signed-2.result c.signed-2.ensures
     ∙ ap (λ (k : ℕ). sub_ℕ k 1300) up)
     ∙ says_by100 ac (in-range search) (not-zero search) (not-metric search) (not-25 search)

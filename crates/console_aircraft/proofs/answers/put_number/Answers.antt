@@ -1,9 +1,7 @@
 -- `put_number` lays the number, which has eight bits.
-use mathlib.Core.Path.{refl}
 use native.Mathlib.Omega.{arith}
 use Rattle.console_rules.proofs.ShortAircraft.{refusal_fits}
-use borrow.Author.Rules.{rules}
 use Rattle.console_aircraft.proofs.answers.put_number.Goals as goal
 
 pub returns : goal.returns
-returns c = record { text_put = c.put_refusal-size.ensures; aircraft = refl; short = refusal_fits _ (omega arith) }
+returns c = record { text_put = c.put_refusal.ensures; short = refusal_fits _ (omega arith) }

@@ -1,7 +1,6 @@
 -- `put_flight` goes by the line.
 use Rattle.console_rules.specs.Aircraft.{flight_said}
 use Rattle.console_aircraft.proofs.Texts.{flight_line}
-use borrow.Author.Rules.{rules}
 use Rattle.console_aircraft.proofs.lines.put_flight.Goals as goal
 
 pub returns-in-Model : goal.returns-in-Model

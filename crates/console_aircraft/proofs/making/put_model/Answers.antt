@@ -1,6 +1,4 @@
 -- `put_model` reads five numbers, and has the aircraft made of them.
-use Rattle.console_aircraft.proofs.making.put_model.Reads as reads
-use borrow.Author.Rules.{rules}
 use Rattle.console_plain.proofs.Texts.{lent}
 use Rattle.console_aircraft.proofs.Texts.{by_words}
 use Rattle.console_aircraft.proofs.making.put_model.Goals as goal

@@ -1,16 +1,10 @@
--- `put_reply` lays the bytes of the reply, as many as there are.
-use borrow.Author.Rules.{rules}
-use Rattle.console_aircraft.proofs.Texts.{reply}
+-- `put_reply` lays the bytes of the reply, of which there are at most 14.
+use native.Mathlib.Omega.{arith}
+use Rattle.console_aircraft.proofs.Texts.{reply_none, reply_some}
 use Rattle.console_aircraft.proofs.sending.put_reply.Goals as goal
 
-pub returns-then-n-eq0 : goal.returns-then-n-eq0
-returns-then-n-eq0 c = search (reply, rules)
+pub returns-in-Some : goal.returns-in-Some
+returns-in-Some c = let b = c.bytes.ensures in reply_some c.in-Some.is b.0 b.1 b.2 c.put_hex.ensures
 
-pub returns-then-n-gt14 : goal.returns-then-n-gt14
-returns-then-n-gt14 c = search (reply, rules)
-
-pub slice_bounds-put_hex-end-2 : goal.slice_bounds-put_hex-end-2
-slice_bounds-put_hex-end-2 c = search (reply, rules)
-
-pub returns : goal.returns
-returns c = search (reply, rules)
+pub returns-in-None : goal.returns-in-None
+returns-in-None c = (reply_none c.in-None.is c.put_byte.ensures, rw c.in-None.is (omega arith))

@@ -3,8 +3,8 @@ use borrow.Author.Rules.{rules}
 use Rattle.console_aircraft.proofs.Texts.{holder}
 use Rattle.console_aircraft.proofs.showing.put_holder.Goals as goal
 
-pub returns-in-Nobody : goal.returns-in-Nobody
-returns-in-Nobody c = (search holder, search holder)
+pub returns-in-None : goal.returns-in-None
+returns-in-None c = (search holder, search holder)
 
-pub returns-in-Held : goal.returns-in-Held
-returns-in-Held c = (search holder, search (holder, rules))
+pub returns-in-Some : goal.returns-in-Some
+returns-in-Some c = (search holder, search (holder, rules))

@@ -1,21 +1,13 @@
 -- `put_locks` has put the codes of the timers before place i.
-use Prim.Native.Nat.{◌≤◌, ◌-◌}
-use native.Mathlib.Omega.{arith}
+use Prim.Native.Nat.{◌≤◌}
 use mathlib.Core.Path.{◌≡◌}
 use lib.ListN.{length, drop}
-use Rattle.lists.proofs.Front.{length_mapped}
-use Rattle.text_rules.proofs.Laid.{Still, put_inside, put_out, still_first}
+use Rattle.text_rules.proofs.Laid.{Still}
 use Rattle.console_rules.specs.Aircraft.{locks_text}
-use Rattle.console_aircraft.proofs.Texts.{locks_more, locks_end}
-use borrow.Author.Rules.{rules}
 use Rattle.console_aircraft.proofs.showing.put_locks.Given as goal
 
 abbrev pub invariant-loop-i : goal.invariant-loop-i
 invariant-loop-i l =
     Still (locks_text 0 l.timers.list) l.initial.next l.initial.out (locks_text l.i (drop l.i l.timers.list)) l.next l.out
-    × (l.i ≤ 79)
     × (l.next ≤ length l.out)
     × (length l.timers.list ≡ 79)
-
-abbrev pub decreases-loop-i : goal.decreases-loop-i
-decreases-loop-i l = 79 - l.i

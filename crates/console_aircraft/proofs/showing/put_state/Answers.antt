@@ -1,8 +1,6 @@
 -- `put_state` shows the aircraft's parts.
-use borrow.Author.Rules.{rules}
-use Rattle.console_rules.specs.Aircraft.{state_said}
+use Rattle.console_aircraft.proofs.Texts.{shown_line}
 use Rattle.console_aircraft.proofs.showing.put_state.Goals as goal
 
 pub returns : goal.returns
-unfolding state_said
-returns c = search
+returns c = shown_line _ _ c.unwrap_or_else.ensures c.put_transponder.ensures

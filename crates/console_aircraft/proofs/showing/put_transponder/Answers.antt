@@ -1,5 +1,4 @@
 -- `put_transponder` hands on the transponder's parts.
-use borrow.Author.Rules.{rules}
 use Rattle.console_rules.specs.Aircraft.{state_text}
 use Rattle.console_aircraft.proofs.Texts.{waiting_as_is}
 use Rattle.console_aircraft.proofs.showing.put_transponder.Goals as goal

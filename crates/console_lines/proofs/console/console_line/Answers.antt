@@ -1,5 +1,4 @@
 -- `console_line` says nothing behind quit, answers a line that is too long, or goes by its words.
-use borrow.Author.Rules.{rules}
 use Rattle.console_lines.proofs.Lines.{stays, stays_silent, too_long_fits, whole}
 use Rattle.console_lines.proofs.console.console_line.Goals as goal
 

@@ -1,6 +1,5 @@
 -- `is_comment` looks at the first byte, where there is one.
 use Rattle.console_lines.proofs.Lines.{comment_none, comment_first}
-use borrow.Author.Rules.{rules}
 use Rattle.console_lines.proofs.console.is_comment.Goals as goal
 
 pub returns-then-word-eq0 : goal.returns-then-word-eq0

@@ -1,7 +1,6 @@
 -- `put_call` goes by the call.
 use Rattle.console_rules.specs.Console.{call_told}
-use Rattle.console_lines.proofs.Lines.{its_call, briefly, flies, serves, stays_silent, ends}
-use borrow.Author.Rules.{rules}
+use Rattle.console_lines.proofs.Lines.{its_call, briefly, flies, serves, ends}
 use Rattle.console_lines.proofs.console.put_call.Goals as goal
 
 pub returns-in-Plain : goal.returns-in-Plain
@@ -19,7 +18,3 @@ returns-in-Station c = search (its_call, serves)
 pub returns-in-Quit : goal.returns-in-Quit
 unfolding call_told
 returns-in-Quit c = search (its_call, ends)
-
-pub returns-in-Unknown : goal.returns-in-Unknown
-unfolding call_told
-returns-in-Unknown c = search (its_call, stays_silent)

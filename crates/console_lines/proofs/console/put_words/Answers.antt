@@ -1,5 +1,4 @@
 -- `put_words` answers a line that has words, the first of which begins no comment.
-use borrow.Author.Rules.{rules}
 use Rattle.console_plain.proofs.Texts.{word_of}
 use Rattle.console_lines.proofs.Lines.{lines, stays_silent}
 use Rattle.console_lines.proofs.console.put_words.Goals as goal

@@ -1,25 +1,22 @@
 -- `find_row` compares the word with one name after the other.
-use Prim.Native.Nat.{◌-◌, ◌≤◌}
-use native.Mathlib.Omega.{arith}
-use mathlib.Core.Path.{◌≡◌, refl}
-use lib.ListN.{drop}
-use Rattle.console_rules.specs.Names.{table, row_count, row_in, row_of}
-use Rattle.console_lines.proofs.Lines.{rows}
-use borrow.Author.Rules.{rules}
+use mathlib.Core.Path.{refl, sym, ◌∙◌}
+use Rattle.console_rules.specs.Names.{table, row_of}
+use Rattle.console_lines.proofs.ByName.{row_found, row_other, rows_over}
 use Rattle.console_lines.proofs.names.find_row.Goals as goal
 
-pub loop-k-init : goal.loop-k-init
-unfolding row_of
-loop-k-init c = (omega arith, refl)
+pub loop-name-init : goal.loop-name-init
+unfolding row_of table
+loop-name-init c = (refl, record { are = refl })
 
-pub returns-then-is_name : goal.returns-then-is_name
-unfolding row_of
-returns-then-is_name c = search rows
+pub returns-then-same : goal.returns-then-same
+returns-then-same c =
+    let i = c.loop-name.invariant in
+    row_found _ i.1 _ _ i.0 c.loop-name-test.true (sym c.same.ensures ∙ c.if-same.true)
 
-pub loop-k-preserved : goal.loop-k-preserved
-unfolding row_of
-loop-k-preserved c = (omega arith, search rows)
+pub loop-name-preserved : goal.loop-name-preserved
+loop-name-preserved c =
+    let i = c.loop-name.invariant in
+    (row_other _ i.1 _ _ i.0 c.loop-name-test.true (sym c.same.ensures ∙ c.if-same.false), i.1)
 
 pub returns : goal.returns
-unfolding row_of
-returns c = search rows
+returns c = rows_over _ _ c.loop-name.invariant.0 c.loop-name-test.false

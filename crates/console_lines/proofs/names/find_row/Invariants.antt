@@ -1,16 +1,10 @@
 -- `find_row` compares the word with one name after the other.
-use Prim.Native.Nat.{◌-◌, ◌≤◌}
-use native.Mathlib.Omega.{arith}
-use mathlib.Core.Path.{◌≡◌, refl}
+use mathlib.Core.Path.{◌≡◌}
 use lib.ListN.{drop}
-use Rattle.console_rules.specs.Names.{table, row_count, row_in, row_of}
-use Rattle.console_lines.proofs.Lines.{rows}
-use borrow.Author.Rules.{rules}
+use Rattle.console_rules.specs.Names.{table, row_in, row_of}
+use Rattle.console_lines.proofs.ByName.{Listed}
 use Rattle.console_lines.proofs.names.find_row.Given as goal
 
--- what the names behind k say is what all of them say
-abbrev pub invariant-loop-k : goal.invariant-loop-k
-invariant-loop-k l = (l.k ≤ row_count) × (row_of l.word ≡ row_in l.word (drop l.k table))
-
-abbrev pub decreases-loop-k : goal.decreases-loop-k
-decreases-loop-k l = row_count - l.k
+-- what the lines behind say is what all of them say, and the lines are those of the definition
+abbrev pub invariant-loop-name : goal.invariant-loop-name
+invariant-loop-name l = (row_of l.word ≡ row_in l.word (drop l.name-index table)) × Listed l.name-items

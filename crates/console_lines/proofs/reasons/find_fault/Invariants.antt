@@ -1,14 +1,8 @@
 -- `find_fault` looks at one word after the other.
-use Prim.Native.Nat.{◌-◌, ◌≤◌}
-use native.Mathlib.Omega.{arith}
 use Rattle.text_rules.specs.Line.{words_of}
-use Rattle.console_lines.proofs.Judging.{Behind, behind_none, faults}
-use borrow.Author.Rules.{rules}
+use Rattle.console_lines.proofs.Judging.{Behind}
 use Rattle.console_lines.proofs.reasons.find_fault.Given as goal
 
 -- what the words behind the k-th say is what all of them say
 abbrev pub invariant-loop-k : goal.invariant-loop-k
-invariant-loop-k l = Behind l.r (words_of l.line) l.k × (l.k ≤ l.r.words)
-
-abbrev pub decreases-loop-k : goal.decreases-loop-k
-decreases-loop-k l = l.r.words - l.k
+invariant-loop-k l = Behind l.r (words_of l.line) l.k

@@ -1,6 +1,5 @@
 -- `put_counted` lays a text, a number and a text.
 use Rattle.text_rules.proofs.Laid.{put_then}
-use borrow.Author.Rules.{rules}
 use Rattle.console_lines.proofs.reasons.put_counted.Goals as goal
 
 pub returns : goal.returns

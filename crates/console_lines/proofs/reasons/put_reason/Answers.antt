@@ -1,12 +1,7 @@
 -- `put_reason` goes by the reason; a number in it has three digits at most.
 use Rattle.console_rules.specs.Reasons.{reason_text}
-use Rattle.console_lines.proofs.Judging.{read_laid, reasons}
-use borrow.Author.Rules.{rules}
+use Rattle.console_lines.proofs.Judging.{reasons}
 use Rattle.console_lines.proofs.reasons.put_reason.Goals as goal
-
-pub returns-in-Read : goal.returns-in-Read
-unfolding reason_text
-returns-in-Read c = search read_laid
 
 pub returns-in-NoSuchLine : goal.returns-in-NoSuchLine
 unfolding reason_text

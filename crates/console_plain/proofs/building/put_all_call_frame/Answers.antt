@@ -1,6 +1,4 @@
 -- `put_all_call_frame` reads three numbers, and lays the all-call of what they say.
-use Rattle.console_plain.proofs.building.put_all_call_frame.Reads as reads
-use borrow.Author.Rules.{rules}
 use Rattle.console_plain.proofs.Texts.{lent}
 use Rattle.console_plain.proofs.ByWords.{by_words}
 use Rattle.console_plain.proofs.building.put_all_call_frame.Goals as goal

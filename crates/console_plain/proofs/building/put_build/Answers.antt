@@ -1,6 +1,4 @@
 -- `put_build` reads seven words, and lays the interrogation of what they say.
-use Rattle.console_plain.proofs.building.put_build.Reads as reads
-use borrow.Author.Rules.{rules}
 use Rattle.console_plain.proofs.Texts.{lent}
 use Rattle.console_plain.proofs.ByWords.{by_words}
 use Rattle.console_plain.proofs.building.put_build.Goals as goal

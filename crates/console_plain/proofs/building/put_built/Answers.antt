@@ -1,5 +1,4 @@
 -- `put_built` lays the frame, or the refusal, one case of the answer after the other.
-use borrow.Author.Rules.{rules}
 use Rattle.text_rules.proofs.Laid.{put_then}
 use Rattle.console_rules.specs.Texts.{done_text, answer_text}
 use Rattle.console_rules.specs.Building.{built_text}
@@ -8,22 +7,19 @@ use mathlib.Core.Path.{◌≡◌}
 use mathlib.Core.List.{List}
 use Rattle.text_rules.specs.Put.{Put}
 use Rattle.frames_rules.specs.Answers.{built_said}
-use Rattle.frames_rules.specs.declared.answers.Built.{Built}
+use Rattle.std.specs.Prelude.{Result}
+use Rattle.refusals.specs.declared.refusal.Refusal.{Refusal}
 use Rattle.console_plain.proofs.building.put_built.Goals as goal
 
 -- the answer's case
-told : (frame : List ℕ) {b d : Built} {at q : ℕ} {l m : List ℕ} → b ≡ d → Put (built_text (built_said d frame)) at l m q
+told : (frame : List ℕ) {b d : Result (Unit {0}) Refusal} {at q : ℕ} {l m : List ℕ} → b ≡ d → Put (built_text (built_said d frame)) at l m q
     → Put (built_text (built_said b frame)) at l m q
 told frame e p = rw e p
 
-pub returns-in-Done : goal.returns-in-Done
+pub returns-in-Ok : goal.returns-in-Ok
 unfolding built_text answer_text done_text
-returns-in-Done c = search (told, put_then)
+returns-in-Ok c = search (told, put_then)
 
-pub returns-in-Length : goal.returns-in-Length
-unfolding built_text answer_text done_text
-returns-in-Length c = search told
-
-pub returns-in-Range : goal.returns-in-Range
-unfolding built_text answer_text done_text
-returns-in-Range c = search told
+pub returns-in-Err : goal.returns-in-Err
+unfolding built_text
+returns-in-Err c = told _ c.in-Err.is (c.put_refused.ensures _)

@@ -1,5 +1,4 @@
 -- `put_selective` lends 14 zeros to a long format and 7 to another, and lays what the builder answers.
-use borrow.Author.Rules.{rules}
 use Rattle.console_rules.specs.Building.{built_text, selective_text}
 use Prim.Native.Nat.{ℕ}
 use mathlib.Core.Path.{◌≡◌}

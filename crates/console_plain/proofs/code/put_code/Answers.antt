@@ -1,6 +1,4 @@
 -- `put_code` reads four words, and lays whose code they say.
-use Rattle.console_plain.proofs.code.put_code.Reads as reads
-use borrow.Author.Rules.{rules}
 use Rattle.console_plain.proofs.Texts.{lent}
 use Rattle.console_plain.proofs.ByWords.{by_words}
 use Rattle.console_plain.proofs.code.put_code.Goals as goal

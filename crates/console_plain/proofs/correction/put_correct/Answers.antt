@@ -1,6 +1,4 @@
 -- `put_correct` reads four words, and lays the correction of what they say.
-use Rattle.console_plain.proofs.correction.put_correct.Reads as reads
-use borrow.Author.Rules.{rules}
 use Rattle.console_plain.proofs.Texts.{lent}
 use Rattle.console_plain.proofs.ByWords.{by_words}
 use Rattle.console_plain.proofs.correction.put_correct.Goals as goal

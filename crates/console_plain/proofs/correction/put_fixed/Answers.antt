@@ -4,7 +4,6 @@ use native.Mathlib.Omega.{arith}
 use mathlib.Core.Path.{◌≡◌, ap, ◌∙◌}
 use mathlib.Core.List.{List}
 use lib.ListN.{length, replicate, length-replicate}
-use borrow.Author.Rules.{rules}
 use Rattle.text_rules.proofs.Laid.{put_as}
 use Rattle.parity_rules.specs.Answers.{buffers, Correction}
 use Rattle.parity_rules.specs.Correction.{correction}

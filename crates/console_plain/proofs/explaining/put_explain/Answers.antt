@@ -1,6 +1,4 @@
 -- `put_explain` reads one number, and lays what it means.
-use Rattle.console_plain.proofs.explaining.put_explain.Reads as reads
-use borrow.Author.Rules.{rules}
 use Rattle.console_plain.proofs.Texts.{lent}
 use Rattle.console_plain.proofs.ByWords.{by_words}
 use Rattle.console_plain.proofs.explaining.put_explain.Goals as goal

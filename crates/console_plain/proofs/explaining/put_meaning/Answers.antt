@@ -1,5 +1,4 @@
 -- `put_meaning` finds the line of a number among the meanings.
-use borrow.Author.Rules.{rules}
 use Rattle.text_rules.proofs.Laid.{put_then}
 use Rattle.console_rules.specs.Texts.{done_text}
 use Rattle.console_rules.specs.Explain.{meanings}

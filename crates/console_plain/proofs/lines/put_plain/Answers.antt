@@ -1,7 +1,6 @@
 -- `put_plain` goes by the line.
 use Rattle.console_rules.specs.PlainLines.{plain_text}
 use Rattle.console_plain.proofs.ByWords.{plain_line, fitting}
-use borrow.Author.Rules.{rules}
 use Rattle.console_plain.proofs.lines.put_plain.Goals as goal
 
 pub returns-in-Remainder : goal.returns-in-Remainder

@@ -1,6 +1,4 @@
 -- `put_down` reads one word of bytes, and lays the reply that they are.
-use Rattle.console_plain.proofs.reading.put_down.Reads as reads
-use borrow.Author.Rules.{rules}
 use Rattle.console_plain.proofs.Texts.{lent}
 use Rattle.console_plain.proofs.ByWords.{by_words}
 use Rattle.console_plain.proofs.reading.put_down.Goals as goal

@@ -1,6 +1,4 @@
 -- `put_up` reads one word of bytes, and lays the interrogation that they are.
-use Rattle.console_plain.proofs.reading.put_up.Reads as reads
-use borrow.Author.Rules.{rules}
 use Rattle.console_plain.proofs.Texts.{lent}
 use Rattle.console_plain.proofs.ByWords.{by_words}
 use Rattle.console_plain.proofs.reading.put_up.Goals as goal

@@ -1,6 +1,4 @@
 -- `put_overlay` reads one number, and lays its overlay.
-use Rattle.console_plain.proofs.reckoning.put_overlay.Reads as reads
-use borrow.Author.Rules.{rules}
 use Rattle.console_plain.proofs.Texts.{lent}
 use Rattle.console_plain.proofs.ByWords.{by_words}
 use Rattle.console_plain.proofs.reckoning.put_overlay.Goals as goal

@@ -1,6 +1,4 @@
 -- `put_remainder` reads one word of bytes, and lays their remainder.
-use Rattle.console_plain.proofs.reckoning.put_remainder.Reads as reads
-use borrow.Author.Rules.{rules}
 use Rattle.console_plain.proofs.Texts.{lent}
 use Rattle.console_plain.proofs.ByWords.{by_words}
 use Rattle.console_plain.proofs.reckoning.put_remainder.Goals as goal

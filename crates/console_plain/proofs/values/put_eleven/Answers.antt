@@ -1,5 +1,4 @@
 -- `put_eleven` lays 0, the numbers and the remainder.
-use borrow.Author.Rules.{rules}
 use Rattle.text_rules.proofs.Laid.{put_then}
 use Rattle.console_rules.specs.Texts.{done_text}
 use Rattle.console_plain.proofs.Frames.{numbers_then}

@@ -1,5 +1,4 @@
 -- `put_end` lays the bytes and the remainder of a long format, and the remainder alone of a short one.
-use borrow.Author.Rules.{rules}
 use borrow.Author.Tests.{not-true, not-false}
 use Rattle.lists.proofs.Checks.{tests}
 use Rattle.text_rules.proofs.Laid.{laying}

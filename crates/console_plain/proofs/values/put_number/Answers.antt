@@ -1,5 +1,4 @@
 -- `put_number` lays the number and a space.
-use borrow.Author.Rules.{rules}
 use Rattle.text_rules.proofs.Laid.{put_then}
 use Rattle.console_rules.specs.Frames.{number_text}
 use Rattle.console_plain.proofs.values.put_number.Goals as goal

@@ -1,5 +1,4 @@
 -- `put_seven` lays 0, five numbers and what ends the line.
-use borrow.Author.Rules.{rules}
 use Rattle.text_rules.proofs.Laid.{put_then}
 use Rattle.console_rules.specs.Texts.{done_text}
 use Rattle.console_rules.specs.Frames.{values_text}

@@ -1,11 +1,6 @@
 -- `bytes_at` reads the word with that number.
-use Rattle.console_plain.proofs.words.bytes_at.Reads as reads
-use borrow.Author.Rules.{rules}
-use Rattle.console_plain.proofs.Texts.{reads}
+use Rattle.console_plain.proofs.Texts.{the_bytes}
 use Rattle.console_plain.proofs.words.bytes_at.Goals as goal
 
-pub returns-in-Bytes : goal.returns-in-Bytes
-returns-in-Bytes c = search reads
-
-pub returns-in-Not : goal.returns-in-Not
-returns-in-Not c = search reads
+pub returns : goal.returns
+returns c = the_bytes c.nth_word-w.ensures c.hex_bytes.ensures c.unwrap_or.ensures

@@ -4,4 +4,4 @@ use Rattle.console_station.proofs.answers.put_outcome.Goals as goal
 
 pub returns : goal.returns
 unfolding outcome_spoken
-returns c = c.put_number.ensures
+returns c = λ s. rw c.number_given.ensures at (c.put_number.ensures s)

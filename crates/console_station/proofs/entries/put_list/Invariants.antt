@@ -1,15 +1,9 @@
--- `put_list` has laid the lines of the entries before place i.
-use Prim.Native.Nat.{◌*◌, ◌-◌, ◌≤◌}
-use mathlib.Core.Path.{◌≡◌}
-use lib.ListN.{length, take, drop}
+-- `put_list` has laid the lines of the entries before number k.
+use Rattle.std.proofs.Common.{◌*◌, drop}
 use Rattle.stream.proofs.Lengths.{Going}
 use Rattle.console_rules.specs.Station.{status_lines}
 use Rattle.console_station.proofs.entries.put_list.Given as goal
 
-abbrev pub invariant-loop-i : goal.invariant-loop-i
-invariant-loop-i l =
-    Going (82 * l.i) (status_lines 0 (take l.n l.entries)) l.initial.next l.initial.out (status_lines l.i (drop l.i (take l.n l.entries))) l.next l.out
-    × (l.i ≤ l.m) × (length l.entries ≡ 128)
-
-abbrev pub decreases-loop-i : goal.decreases-loop-i
-decreases-loop-i l = l.m - l.i
+abbrev pub invariant-loop-k : goal.invariant-loop-k
+invariant-loop-k l =
+    Going (82 * l.k) (status_lines 0 l.e-items) l.initial.next l.initial.out (status_lines l.k (drop l.k l.e-items)) l.next l.out

@@ -1,29 +1,25 @@
--- `put_list` has laid the lines of the targets before place i.
-use native.Mathlib.Omega.{arith}
+-- `put_list` has laid the lines of the targets before the one that comes.
+use Rattle.std.proofs.Common.{◌≡◌, ◌≤◌, length, take, arith, rules, length-take}
 use Rattle.lists.proofs.Front.{length_mapped}
 use Rattle.text_rules.proofs.Laid.{put_inside}
 use Rattle.stream.proofs.Lengths.{going_first, going_next, going_end}
 use Rattle.console_station.proofs.Listed.{targets_more, targets_none, targets_laid}
-use borrow.Author.Rules.{rules}
 use Rattle.console_station.proofs.listing.put_list.Goals as goal
 
-pub loop-i-init : goal.loop-i-init
-loop-i-init c = (going_first _ _ _ (search put_inside), omega arith, search (rules, length_mapped))
+pub loop-t-init : goal.loop-t-init
+loop-t-init c = going_first _ _ _ (search put_inside)
 
-pub loop-i-preserved : goal.loop-i-preserved
-loop-i-preserved c =
-    let a = c.args in
-    let before = c.loop-i.invariant in (
-      going_next before.0 84 _ (targets_more a.n a.targets c.loop-i.i _ (omega (arith, c.live-m.ensures.0, before.2, c.loop-i-test.true)))
-          c.put_target-next.ensures (omega arith),
-      omega arith,
-      before.2,
-    )
+pub loop-t-preserved : goal.loop-t-preserved
+loop-t-preserved c =
+    let l = c.loop-t in
+    going_next l.invariant 84 _ (targets_more _ l.t-index _ c.loop-t-test.true) c.put_target-next.ensures (omega arith)
 
 pub returns : goal.returns
 returns c =
-    let a = c.args in
-    let all = c.loop-i.invariant in
+    let ts = c.args.targets.now in
+    let l = c.loop-t in
     let n = c.live-m.ensures in
-    targets_laid a.n a.targets (omega (arith, n.0, all.2)) n.1 c.put_bytes-first.ensures c.put_decimal-end.ensures c.put_byte-next.ensures
-    (going_end all.0 5376 (targets_none a.n a.targets c.loop-i.i (omega (arith, n.0, all.2, c.loop-i-test.false))) (omega (arith, n.1, all.1)))
+    let all : length ts ≡ 64 = search (rules, length_mapped) in
+    let short : length (take c.live-m.result ts) ≤ 64 = simp length-take (omega (arith, n.1)) in
+    targets_laid c.args.n ts (omega (arith, n.0, all)) n.1 c.put_bytes-first.ensures c.put_decimal-end.ensures c.put_byte-next.ensures
+    (going_end l.invariant 5376 (targets_none _ l.t-index c.loop-t-test.false) (omega (arith, short, l.auto.t-index-end)))

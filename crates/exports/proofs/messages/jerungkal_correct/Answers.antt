@@ -9,4 +9,4 @@ told b n f = record { number = n; flips = f; buffers = b }
 
 pub returns : goal.returns
 returns c =
-    ap₂ (told _) c.pack_fix.ensures.number c.pack_fix.ensures.flips ∙ c.correct.ensures
+    ap₂ (told _) c.pack.ensures.parts.number c.pack.ensures.parts.flips ∙ c.correct.ensures

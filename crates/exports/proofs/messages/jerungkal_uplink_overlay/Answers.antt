@@ -4,4 +4,4 @@ use Rattle.exports.specs.Packed.{packed}
 use Rattle.exports.proofs.messages.jerungkal_uplink_overlay.Goals as goal
 
 pub returns : goal.returns
-returns c = c.pack.ensures ∙ ap packed c.uplink_overlay.ensures
+returns c = c.pack.ensures.said ∙ ap packed c.uplink_overlay.ensures

@@ -1,12 +1,9 @@
--- `exports::pack` meets its contract: case by case.
+-- `exports::pack` meets its contract: the number above, the value below.
 use native.Mathlib.Omega.{arith}
 use Rattle.exports.proofs.messages.pack.Goals as goal
 
-pub returns-in-Is : goal.returns-in-Is
-returns-in-Is c = rw c.in-Is.is (omega arith)
+pub returns-in-Ok : goal.returns-in-Ok
+returns-in-Ok c = rw c.in-Ok.is (record { said = omega arith; parts = record { number = omega arith; flips = omega arith } })
 
-pub returns-in-Length : goal.returns-in-Length
-returns-in-Length c = rw c.in-Length.is
-
-pub returns-in-Range : goal.returns-in-Range
-returns-in-Range c = rw c.in-Range.is
+pub returns-in-Err : goal.returns-in-Err
+returns-in-Err c = rw c.in-Err.is (record { said = omega arith; parts = record { number = omega arith; flips = omega arith } })

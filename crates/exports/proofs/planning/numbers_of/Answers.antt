@@ -1,24 +1,19 @@
 -- `numbers_of` is the MA of the entries.
+use Prim.Native.Nat.{ℕ, ◌<◌}
 use native.Mathlib.Omega.{arith}
-use mathlib.Core.Path.{refl}
+use mathlib.Core.Path.{◌≡◌}
+use lib.ListN.{length, get_or}
 use Rattle.lists.proofs.Front.{length_mapped}
-use Rattle.lists.proofs.Copied.{copied_none, copied_more, copied_all}
 use Rattle.planner_rules.specs.declared.entry.Entry.{Entry}
 use borrow.Author.Rules.{rules}
+use Rattle.exports.proofs.Rows.{each_of}
 use Rattle.exports.proofs.planning.numbers_of.Goals as goal
 
-pub loop-i-init : goal.loop-i-init
-loop-i-init c = (search rules, copied_none (λ (e : Entry). e.ask.request.ma) c.args.entries _, search (rules, length_mapped), refl)
-
-pub loop-i-preserved : goal.loop-i-preserved
-loop-i-preserved c = (
-  search rules,
-  copied_more (λ (e : Entry). e.ask.request.ma) c.args.entries _ c.loop-i.i c.loop-i.r _ (omega (arith, c.loop-i.invariant.2))
-      (omega (arith, c.loop-i.invariant.3)) c.loop-i.invariant.1,
-  c.loop-i.invariant.2,
-  c.loop-i.invariant.3,
-)
-
 pub returns : goal.returns
-returns c = copied_all (λ (e : Entry). e.ask.request.ma) c.args.entries _ c.loop-i.i c.loop-i.r (omega (arith, c.loop-i.invariant.2))
-    (omega (arith, c.loop-i.invariant.2, c.loop-i.invariant.3)) c.loop-i.invariant.1
+returns c =
+    let es = c.args.entries in
+    let n : length es ≡ 128 = search (rules, length_mapped) in
+    let m = c.map.ensures.items.long in
+    let at : (i : ℕ) (d : Entry) (e : ℕ) → i < length es → get_or c.map.result i e ≡ (get_or es i d).ask.request.ma = λ i d e l.
+    let x = c.map.ensures.items.at i d e (omega (arith, n)) in search rules in
+    each_of (λ (e : Entry). e.ask.request.ma) es c.map.result (omega (arith, n, m)) at

@@ -1,5 +1,4 @@
 -- `feet_line` answers a line that is too long, or goes by its words.
-use borrow.Author.Rules.{rules}
 use Rattle.feet_lines.proofs.Texts.{long_line, short_line}
 use Rattle.feet_lines.proofs.lines.feet_line.Goals as goal
 

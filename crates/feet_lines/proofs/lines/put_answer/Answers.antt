@@ -1,5 +1,4 @@
 -- `put_answer` lays the answer's number and its value.
-use borrow.Author.Rules.{rules}
 use Rattle.altitude_rules.proofs.Answers.{altitude_is}
 use Rattle.feet_lines.proofs.Texts.{answer_put}
 use Rattle.feet_lines.proofs.lines.put_answer.Goals as goal

@@ -1,5 +1,4 @@
 -- `put_words` lays what a line prints: nothing, its one code, or "- 2".
-use borrow.Author.Rules.{rules}
 use Rattle.console_rules.specs.FeetLines.{number_text}
 use Rattle.feet_lines.proofs.Texts.{spans}
 use Rattle.feet_lines.proofs.lines.put_words.Goals as goal
@@ -12,10 +11,10 @@ pub returns-then-second : goal.returns-then-second
 unfolding number_text
 returns-then-second c = search spans
 
-pub returns-in-Is : goal.returns-in-Is
+pub returns-in-Some : goal.returns-in-Some
 unfolding number_text
-returns-in-Is c = search spans
+returns-in-Some c = search spans
 
-pub returns-in-Not : goal.returns-in-Not
+pub returns-in-None : goal.returns-in-None
 unfolding number_text
-returns-in-Not c = search spans
+returns-in-None c = search spans

@@ -1,5 +1,6 @@
 -- `frames::builders::build` meets its contract: its lines one after the other, then the frame.
 use mathlib.Core.Path.{sym, ap, ◌∙◌}
+use mathlib.Core.Logic.{⊎_elim}
 use native.Mathlib.Omega.{arith}
 use borrow.Author.Rules.{rules}
 use Rattle.lists.proofs.Checks.{all, stop, upto, end}
@@ -19,11 +20,8 @@ returns-then-not-surveillance c = stop (not_built _) _ 2 all (search lines depth
 
 pub returns-then-out-length_of : goal.returns-then-out-length_of
 unfolding building
-returns-then-out-length_of c = stop (not_built _) _ 1 all (search lines depth 12) (search lines)
-
-pub returns-then-ma-ne7 : goal.returns-then-ma-ne7
-unfolding building
-returns-then-ma-ne7 c = stop (not_built _) _ 1 all (search lines depth 12) (search lines)
+returns-then-out-length_of c = stop (not_built _) _ 1 all (search lines depth 12)
+    (⊎_elim (λ h. search lines) (λ h. search lines) c.then-out-length_of.either)
 
 pub returns-then-not-selective_ranged : goal.returns-then-not-selective_ranged
 unfolding building

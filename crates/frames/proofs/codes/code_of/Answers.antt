@@ -12,6 +12,7 @@ use Rattle.frames_rules.proofs.Lines.{lines}
 use Rattle.frames_rules.proofs.Ranges.{station_in}
 use Rattle.frames.proofs.codes.code_of.Goals as goal
 use Rattle.frames.proofs.codes.code_of.Goals.{Else-not-seven_or_fourteen, Else-not-station_ranged}
+use Rattle.frames.proofs.codes.code_of.Goals.{then-msg-ne7-via-then-msg-ne7, then-msg-ne7-via-else-msg-ne7+then-head_of-ne11}
 
 -- the length, and then the ranges, once they are judged
 measured : (c : Else-not-seven_or_fourteen) → seven_or_fourteen (length c.args.msg.now) ≡ true
@@ -30,15 +31,15 @@ returns-then-not-station_ranged c = stop refused_by _ 2 all (search lines depth 
 
 pub returns-then-msg-ne7 : goal.returns-then-msg-ne7
 unfolding code_of
-returns-then-msg-ne7 c = stop refused_by _ 14 all (search lines depth 12) (search lines)
+returns-then-msg-ne7 c = stop refused_by _ 14 all (search lines depth 12)
+    (elim c.then-msg-ne7.branch [
+      | then-msg-ne7-via-then-msg-ne7 w ↦ search lines
+      | then-msg-ne7-via-else-msg-ne7+then-head_of-ne11 w ↦ search lines
+    ])
 
 pub head_of-requires : goal.head_of-requires
 unfolding code_of
 head_of-requires c = measured (goal.at.head_of-requires c).Else-not-seven_or_fourteen
-
-pub returns-then-head_of-ne11 : goal.returns-then-head_of-ne11
-unfolding code_of
-returns-then-head_of-ne11 c = stop refused_by _ 14 all (search lines depth 12) (search lines)
 
 pub remainder_of-requires : goal.remainder_of-requires
 unfolding code_of

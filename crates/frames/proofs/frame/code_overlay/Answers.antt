@@ -1,23 +1,11 @@
--- `frames::frame::code_overlay` meets its contract: the case of a number is the only one that comes.
+-- `frames::frame::code_overlay` meets its contract: the number is the only answer that comes.
 use native.Mathlib.Omega.{arith}
-use mathlib.Core.Path.{refl}
 use Rattle.parity_rules.proofs.Laws.{code_is}
-use Rattle.frames_rules.proofs.Told.{the_value, no_length, no_range}
+use Rattle.frames_rules.proofs.Told.{the_value, no_refusal}
 use Rattle.frames.proofs.frame.code_overlay.Goals as goal
 
-pub returns-in-Is : goal.returns-in-Is
-returns-in-Is c =
-    the_value _ _ _ refl
-    (code_is _ c.args.cl c.args.ic (omega arith) (omega arith) c.in-Is.ensures)
+pub unwrap-requires : goal.unwrap-requires
+unwrap-requires c = no_refusal _ _ (code_is _ c.args.cl c.args.ic (omega arith) (omega arith) c.code_overlay.ensures)
 
-pub returns-in-Length : goal.returns-in-Length
-returns-in-Length c =
-    absurd
-    (no_length _ _ refl
-    (code_is _ c.args.cl c.args.ic (omega arith) (omega arith) c.in-Length.ensures))
-
-pub returns-in-Range : goal.returns-in-Range
-returns-in-Range c =
-    absurd
-    (no_range _ _ refl
-    (code_is _ c.args.cl c.args.ic (omega arith) (omega arith) c.in-Range.ensures))
+pub returns : goal.returns
+returns c = the_value _ _ _ c.unwrap.ensures (code_is _ c.args.cl c.args.ic (omega arith) (omega arith) c.code_overlay.ensures)

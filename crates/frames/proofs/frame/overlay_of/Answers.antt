@@ -1,17 +1,10 @@
--- `frames::frame::overlay_of` meets its contract: the case of a number is the only one that comes.
-use mathlib.Core.Path.{refl}
+-- `frames::frame::overlay_of` meets its contract: the number is the only answer that comes.
 use Rattle.parity_rules.proofs.Laws.{uplink_is}
-use Rattle.frames_rules.proofs.Told.{the_value, no_length, no_range}
+use Rattle.frames_rules.proofs.Told.{the_value, no_refusal}
 use Rattle.frames.proofs.frame.overlay_of.Goals as goal
 
-pub returns-in-Is : goal.returns-in-Is
-returns-in-Is c =
-    the_value _ _ _ refl (uplink_is _ c.args.address c.requires c.in-Is.ensures)
+pub unwrap-requires : goal.unwrap-requires
+unwrap-requires c = no_refusal _ _ (uplink_is _ c.args.address c.requires c.uplink_overlay.ensures)
 
-pub returns-in-Length : goal.returns-in-Length
-returns-in-Length c =
-    absurd (no_length _ _ refl (uplink_is _ c.args.address c.requires c.in-Length.ensures))
-
-pub returns-in-Range : goal.returns-in-Range
-returns-in-Range c =
-    absurd (no_range _ _ refl (uplink_is _ c.args.address c.requires c.in-Range.ensures))
+pub returns : goal.returns
+returns c = the_value _ _ _ c.unwrap.ensures (uplink_is _ c.args.address c.requires c.uplink_overlay.ensures)

@@ -1,19 +1,13 @@
--- `frames::message::remainder_of` meets its contract: the case of a number is the only one that comes.
+-- `frames::message::remainder_of` meets its contract: the number is the only answer that comes.
 use native.Mathlib.Omega.{arith}
-use mathlib.Core.Path.{refl}
 use Rattle.parity_rules.proofs.Laws.{remainder_is, remainder_lt}
-use Rattle.frames_rules.proofs.Told.{the_value, no_length, no_range}
+use Rattle.frames_rules.proofs.Told.{the_value, no_refusal}
 use Rattle.frames.proofs.message.remainder_of.Goals as goal
 
-pub returns-in-Is : goal.returns-in-Is
-returns-in-Is c =
-    let e = the_value _ _ _ refl (remainder_is _ c.args.msg.now c.requires c.in-Is.ensures) in
+pub unwrap-requires : goal.unwrap-requires
+unwrap-requires c = no_refusal _ _ (remainder_is _ c.args.msg.now c.requires c.remainder.ensures)
+
+pub returns : goal.returns
+returns c =
+    let e = the_value _ _ _ c.unwrap.ensures (remainder_is _ c.args.msg.now c.requires c.remainder.ensures) in
     (e, omega (arith, e, remainder_lt c.args.msg.now))
-
-pub returns-in-Length : goal.returns-in-Length
-returns-in-Length c =
-    absurd (no_length _ _ refl (remainder_is _ c.args.msg.now c.requires c.in-Length.ensures))
-
-pub returns-in-Range : goal.returns-in-Range
-returns-in-Range c =
-    absurd (no_range _ _ refl (remainder_is _ c.args.msg.now c.requires c.in-Range.ensures))

@@ -1,42 +1,30 @@
--- `frames::read::read_down` meets its contract: its lines one after the other, then the fields.
-use mathlib.Core.Path.{◌≡◌, sym, ◌∙◌}
-use mathlib.Core.Bool.{true}
-use lib.ListN.{length}
+-- `frames::read::read_down` meets its contract: the refusals of its head, then the fields.
+use mathlib.Core.Path.{◌∙◌}
 use borrow.Author.Rules.{rules}
+use Rattle.std.proofs.lemmas.Result.{err_from_is_err_and}
 use Rattle.lists.specs.Answers.{refused_by}
-use Rattle.lists.proofs.Checks.{all, stop, end}
-use Rattle.parity_rules.specs.Messages.{seven_or_fourteen}
+use Rattle.lists.proofs.Checks.{all, end}
 use Rattle.frames_rules.specs.Reading.{read_as, all_call_reply_read, surveillance_read}
-use Rattle.frames_rules.proofs.Lines.{lines, read_eleven, read_others}
+use Rattle.frames_rules.proofs.Lines.{head_judged, head_refused, read_eleven, read_others}
 use Rattle.frames.proofs.read.read_down.Goals as goal
-use Rattle.frames.proofs.read.read_down.Goals.{Else-not-seven_or_fourteen}
 
--- the length once it is judged
-measured : (c : Else-not-seven_or_fourteen) → seven_or_fourteen (length c.args.msg.now) ≡ true
-measured c = sym c.seven_or_fourteen.ensures ∙ c.if-not-seven_or_fourteen.false
-
-pub returns-then-not-seven_or_fourteen : goal.returns-then-not-seven_or_fourteen
-unfolding read_as
-returns-then-not-seven_or_fourteen c = stop refused_by _ 1 all (search lines depth 12) (search lines)
-
-pub head_of-head-requires : goal.head_of-head-requires
-unfolding read_as
-head_of-head-requires c = measured (search rules)
-
-pub returns-then-not-listed : goal.returns-then-not-listed
-unfolding read_as
-returns-then-not-listed c = stop refused_by _ 14 all (search lines depth 12) (search lines)
+pub returns-in_err-head : goal.returns-in_err-head
+returns-in_err-head c =
+    let p = err_from_is_err_and c.from_residual.result c.from_residual.ensures.1 in
+    rw (p.1, p.2) (head_refused c.args.msg.now all_call_reply_read surveillance_read _ c.in_err-head.ensures)
 
 pub remainder_of-remainder-requires : goal.remainder_of-remainder-requires
-unfolding read_as
-remainder_of-remainder-requires c = measured (goal.at.remainder_of-remainder-requires c).Else-not-seven_or_fourteen
+remainder_of-remainder-requires c = (head_judged _ _ c.in_ok-head.ensures).sized
 
-pub returns-then-df-eq11 : goal.returns-then-df-eq11
+pub returns-then-head-eq11 : goal.returns-then-head-eq11
 unfolding read_as
-returns-then-df-eq11 c = read_eleven all_call_reply_read surveillance_read _ c.all_call_reply.ensures (search rules) (search rules) (search rules)
-    ∙ end refused_by _ all (search lines depth 12)
+returns-then-head-eq11 c =
+    let j = head_judged _ _ c.in_ok-head.ensures in
+    read_eleven all_call_reply_read surveillance_read _ c.all_call_reply.ensures j.head_is (search rules) (search rules) ∙ end refused_by _ all j.none
 
 pub returns : goal.returns
 unfolding read_as
-returns c = read_others all_call_reply_read surveillance_read _ c.surveillance.ensures (search rules) (search rules) (search rules) (search rules)
-    ∙ end refused_by _ all (search lines depth 12)
+returns c =
+    let j = head_judged _ _ c.in_ok-head.ensures in
+    read_others all_call_reply_read surveillance_read _ c.surveillance.ensures j.head_is (search rules) (search rules) (search rules)
+    ∙ end refused_by _ all j.none

@@ -32,7 +32,13 @@ returns-then-not-reply_ranged c = stop (not_built _) _ 2 (upto 1 all (search lin
 
 pub reply_head-requires : goal.reply_head-requires
 unfolding replying
-reply_head-requires c = let r = in-range (search rules) in (surveillance_lt _ (format (goal.at.reply_head-requires c).Else-not-surveillance), omega arith, omega arith, omega arith, omega arith)
+reply_head-requires c = let r = in-range (search rules) in (
+  surveillance_lt _ (format (goal.at.reply_head-requires c).Else-not-surveillance),
+  omega arith,
+  omega arith,
+  omega arith,
+  omega arith,
+)
 
 pub write-requires : goal.write-requires
 unfolding replying

@@ -15,7 +15,7 @@ pub returns-then-g : goal.returns-then-g
 returns-then-g g c =
     record {
       prefix_len = (search held_fits, search held_count);
-      fed = fed_line (not-false _ c.if-not-f.false) c.within-got.ensures.value c.loop-turns.invariant.4 c.gather-g.ensures;
+      fed = fed_line (not-false _ c.if-not-f.false) c.within-got.ensures.value c.loop.invariant.4 c.gather-g.ensures;
     }
 
 pub returns-then-got-eq0 : goal.returns-then-got-eq0
@@ -23,28 +23,28 @@ returns-then-got-eq0 g c =
     record {
       prefix_len = rw c.ended-then-got-eq0.ensures (search held_fits, search held_count);
       fed =
-          fed_input (not-false _ c.if-not-f.false) c.within-got.ensures.value c.loop-turns.invariant.4 c.gather-g.ensures c.if-g.false
+          fed_input (not-false _ c.if-not-f.false) c.within-got.ensures.value c.loop.invariant.4 c.gather-g.ensures c.if-g.false
           c.ended-then-got-eq0.ensures;
     }
 
-pub loop-turns-preserved : goal.loop-turns-preserved
-loop-turns-preserved g c = (
+pub loop-preserved : goal.loop-preserved
+loop-preserved g c = (
   search rules,
   (search held_fits, search held_count),
   search rules,
   search held_same,
-  held_next c.loop-turns.invariant.4 c.gather-g.ensures c.if-g.false,
+  held_next c.loop.invariant.4 c.gather-g.ensures c.if-g.false,
 )
 
 pub returns : goal.returns
 returns g c =
     record {
       prefix_len = rw c.ended-2.ensures (search rules);
-      fed = fed_turns (not-false _ c.if-not-f.false) c.within-got.ensures.value c.loop-turns.invariant.4 (omega arith) c.ended-2.ensures;
+      fed = fed_turns (not-false _ c.if-not-f.false) c.within-got.ensures.value c.loop.invariant.4 (omega arith) c.ended-2.ensures;
     }
 
-pub loop-turns-init : goal.loop-turns-init
-loop-turns-init g c = (search rules, (omega arith, refl), refl, refl, held_first)
+pub loop-init : goal.loop-init
+loop-init g c = (search rules, (omega arith, refl), refl, refl, held_first)
 
 pub shape_of-line-then-g : goal.shape_of-line-then-g
 shape_of-line-then-g g c = search held_same

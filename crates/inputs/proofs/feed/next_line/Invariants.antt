@@ -5,10 +5,7 @@ use Rattle.inputs.proofs.First.{Held}
 use Rattle.io.specs.Counts.{IsPrefixLen}
 use Rattle.inputs.proofs.feed.next_line.Given as goal
 
-abbrev pub invariant-loop-turns : goal.invariant-loop-turns
-invariant-loop-turns g l =
+abbrev pub invariant-loop : goal.invariant-loop
+invariant-loop g l =
     IsPrefixLen l.got l.piece × IsPrefixLen l.size l.line × (length l.piece ≡ length l.initial.piece) × (length l.line ≡ length l.initial.line)
-    × Held l.initial.piece l.initial.line l.initial.got l.initial.at l.initial.turns l.piece l.line l.got l.at l.size l.turns
-
-abbrev pub decreases-loop-turns : goal.decreases-loop-turns
-decreases-loop-turns g l = l.turns
+    × Held l.initial.piece l.initial.line l.initial.got l.initial.at l.piece l.line l.got l.at l.size l.counter

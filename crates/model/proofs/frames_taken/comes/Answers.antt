@@ -1,20 +1,21 @@
 -- `model::frames_taken::comes` meets its contract: by what was read.
+use mathlib.Core.Path.{refl, ap, ◌∙◌}
+use Rattle.std.specs.Prelude.{Ok}
+use Rattle.frames_rules.specs.declared.answers.Up.{Up}
 use Rattle.model_rules.specs.Calls.{comes}
 use Rattle.model.proofs.Steps.{comes_as}
 use Rattle.model.proofs.frames_taken.comes.Goals as goal
 
-pub returns-in-Selective : goal.returns-in-Selective
+pub returns-in-Ok-Selective : goal.returns-in-Ok-Selective
 unfolding comes
-returns-in-Selective c = comes_as _ _ c.read_up.ensures _ _ _ _ c.in-Selective.is c.selective_comes.ensures
+returns-in-Ok-Selective c =
+    comes_as _ _ c.read_up.ensures _ _ _ _ (c.in-Ok-Selective.is ∙ ap (λ (u : Up). Ok u) c.in-Ok-Selective.field-0-is) c.selective_comes.ensures
 
-pub returns-in-AllCall : goal.returns-in-AllCall
+pub returns-in-Ok-AllCall : goal.returns-in-Ok-AllCall
 unfolding comes
-returns-in-AllCall c = comes_as _ _ c.read_up.ensures _ _ _ _ c.in-AllCall.is c.all_call_comes.ensures
+returns-in-Ok-AllCall c =
+    comes_as _ _ c.read_up.ensures _ _ _ _ (c.in-Ok-AllCall.is ∙ ap (λ (u : Up). Ok u) c.in-Ok-AllCall.field-0-is) c.all_call_comes.ensures
 
-pub returns-in-Length : goal.returns-in-Length
+pub returns-in-Err : goal.returns-in-Err
 unfolding comes
-returns-in-Length c = comes_as _ _ c.read_up.ensures _ _ _ _ c.in-Length.is c.time_alone.ensures
-
-pub returns-in-Format : goal.returns-in-Format
-unfolding comes
-returns-in-Format c = comes_as _ _ c.read_up.ensures _ _ _ _ c.in-Format.is c.time_alone-in-Format.ensures
+returns-in-Err c = comes_as _ _ c.read_up.ensures _ _ _ _ c.in-Err.is refl

@@ -1,6 +1,7 @@
 -- `model::lapses::lapse` meets its contract: each part lapses.
-use Rattle.model.proofs.Steps.{lapse_is}
+use Rattle.model_rules.specs.Lapse.{lapse}
 use Rattle.model.proofs.lapses.lapse.Goals as goal
 
 pub returns : goal.returns
-returns c = lapse_is _ _ _ _ _ c.timers_after-timers.ensures c.holder_after.ensures c.with_holder-u.ensures
+unfolding lapse
+returns c = rw (c.timers_after.ensures, c.holder_after-t.ensures)

@@ -1,25 +1,17 @@
 -- `model::lapses::timers_after` meets its contract: a map in place.
-use mathlib.Core.Path.{◌≡◌}
-use native.Mathlib.Omega.{arith}
-use lib.ListN.{length}
-use Rattle.lists.proofs.Front.{length_mapped}
+use mathlib.Core.Path.{ap, ◌∙◌}
+use mathlib.Core.List.{map}
+use Rattle.model_rules.specs.Lapse.{timer_after}
 use Rattle.model.proofs.Slots.{timers_are}
 use Rattle.lists.proofs.Mapped.{mapped_none, mapped_more, mapped_all}
-use borrow.Author.Rules.{rules}
 use Rattle.model.proofs.lapses.timers_after.Goals as goal
 
-pub loop-i-init : goal.loop-i-init
-loop-i-init c = (search rules, mapped_none _ _)
+pub loop-x-init : goal.loop-x-init
+loop-x-init c = mapped_none _ _
 
-pub loop-i-preserved : goal.loop-i-preserved
-loop-i-preserved c =
-    let t = c.args.t in
-    let e : length t.list ≡ 79 = search (rules, length_mapped) in
-    (search rules, mapped_more _ t.list _ _ _ (omega arith) c.loop-i.invariant.1 _ c.timer_after-y.ensures)
+pub loop-x-preserved : goal.loop-x-preserved
+loop-x-preserved c = mapped_more _ _ _ _ _ c.loop-x-test.true c.loop-x.invariant _ c.timer_after.ensures
 
 pub returns : goal.returns
 returns c =
-    let t = c.args.t in
-    let e : length t.list ≡ 79 = search (rules, length_mapped) in
-    let l = mapped_all _ t.list c.loop-i.i _ (omega arith) c.loop-i.invariant.1 in
-    timers_are _ t _ l
+    timers_are _ _ _ (mapped_all _ _ _ _ c.loop-x-test.false c.loop-x.invariant ∙ ap (map (timer_after c.args.now)) c.as_mut_slice-x-items.ensures.value)

@@ -4,6 +4,4 @@ use Rattle.model.proofs.lockouts.lockout.Goals as goal
 
 pub returns : goal.returns
 unfolding lockout commanded
-returns c =
-    let a = c.command_of_pc.ensures in
-    let b = c.command_of_sd.ensures in let d = c.start-x.ensures in let e = c.start-u.ensures in cc
+returns c = rw (c.start-2.ensures, c.start.ensures, c.command_of_sd.ensures, c.command_of_pc.ensures)

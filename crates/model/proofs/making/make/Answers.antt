@@ -14,7 +14,7 @@ ranged c = let a = c.args in make_in a.address a.ac a.id a.fs a.ca (search (test
 
 pub returns-then-not-make_ranged : goal.returns-then-not-make_ranged
 unfolding making
-returns-then-not-make_ranged c = rw c.newborn.ensures (stop not_made _ 2 all (search tests depth 12) (search tests))
+returns-then-not-make_ranged c = stop not_made _ 2 all (search tests depth 12) (search tests)
 
 pub overflow_cast-ac : goal.overflow_cast-ac
 unfolding making
@@ -34,4 +34,4 @@ overflow_cast-ca c = let r = ranged c in omega arith
 
 pub returns : goal.returns
 unfolding making
-returns c = rw c.newborn-2.ensures (end not_made _ all (search tests depth 12))
+returns c = rw c.newborn.ensures (end not_made _ all (search tests depth 12))

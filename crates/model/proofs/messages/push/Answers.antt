@@ -10,7 +10,7 @@ use Rattle.model.proofs.messages.push.Goals as goal
 pub returns : goal.returns
 unfolding messages_with
 returns c =
-    let m = c.args.m in
+    let m = c.args.m.now in
     let e : length m.list ≡ 8 = search rules in
     let k = c.count-n.ensures.0 in
     let l = front_push m.n m.list c.args.v _ k (omega arith) in

@@ -1,5 +1,5 @@
 -- `model::messages::queue` meets its contract: check by check.
-use mathlib.Core.Path.{◌≡◌, ◌∙◌}
+use mathlib.Core.Path.{◌≡◌}
 use Rattle.frames_rules.specs.Bytes.{number_of_bytes}
 use Rattle.frames_rules.proofs.Numbers.{seven_bytes}
 use borrow.Author.Rules.{rules}
@@ -15,16 +15,16 @@ message c = seven_bytes c.args.message.now c.number_of.ensures (search rules)
 
 pub returns-then-message-ne7 : goal.returns-then-message-ne7
 unfolding queuing
-returns-then-message-ne7 c = (search rules) ∙ stop (not_queued _) _ 1 all (search tests depth 12) (search tests)
+returns-then-message-ne7 c = stop (not_queued _) _ 1 all (search tests depth 12) (search tests)
 
 pub returns-then-count-ge8 : goal.returns-then-count-ge8
 unfolding queuing
-returns-then-count-ge8 c = (search rules) ∙ stop (not_queued _) _ 6 all (search tests depth 12) (search counted)
+returns-then-count-ge8 c = stop (not_queued _) _ 6 all (search tests depth 12) (search counted)
 
-pub push-u-requires : goal.push-u-requires
+pub push-requires : goal.push-requires
 unfolding queuing
-push-u-requires c = search counted
+push-requires c = search counted
 
 pub returns : goal.returns
 unfolding queuing
-returns c = rw (c.push-u.ensures, message (goal.at.returns c).After-number_of) (end (not_queued _) _ all (search counted depth 12))
+returns c = rw (c.push.ensures, message (goal.at.returns c).After-number_of) (end (not_queued _) _ all (search counted depth 12))

@@ -1,14 +1,9 @@
 -- `model::sending::send_long` meets its contract: the frame that was built, or none.
-use mathlib.Core.Path.{◌∙◌}
-use Rattle.model.proofs.Built.{sent_long_is, sent_length, sent_range}
-use borrow.Author.Rules.{rules}
+use Rattle.model.proofs.Built.{sent_done, sent_refused}
 use Rattle.model.proofs.sending.send_long.Goals as goal
 
-pub returns-in-Done : goal.returns-in-Done
-returns-in-Done c = sent_long_is _ _ _ c.reply.ensures c.in-Done.is (search rules)
+pub returns-in_err-ok : goal.returns-in_err-ok
+returns-in_err-ok c = rw c.from_residual.ensures (sent_refused _ _ _ c.reply.ensures c.ok.ensures.value c.in_err-ok.was)
 
-pub returns-in-Length : goal.returns-in-Length
-returns-in-Length c = c.silence.ensures ∙ sent_length _ _ _ c.reply.ensures c.in-Length.is
-
-pub returns-in-Range : goal.returns-in-Range
-returns-in-Range c = c.silence-in-Range.ensures ∙ sent_range _ _ _ c.reply.ensures c.in-Range.is
+pub returns : goal.returns
+returns c = sent_done _ _ _ c.reply.ensures c.ok.ensures.value c.in_ok-ok.was

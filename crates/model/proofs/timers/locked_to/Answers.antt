@@ -1,19 +1,11 @@
--- `model::timers::locked_to` meets its contract: the lock at its place.
-use mathlib.Core.Path.{◌≡◌}
-use native.Mathlib.Omega.{arith}
-use lib.ListN.{length}
-use Rattle.lists.proofs.Front.{length_mapped}
-use Rattle.model.proofs.Steps.{locked_none, locked_at}
-use borrow.Author.Rules.{rules}
+-- `model::timers::locked_to` meets its contract: the timer at its place.
+use mathlib.Core.Path.{◌∙◌}
+use borrow.Author.Tests.{le-ltb}
+use Rattle.model.proofs.Slots.{locked_none, locked_at}
 use Rattle.model.proofs.timers.locked_to.Goals as goal
 
-pub returns-then-place-ge79 : goal.returns-then-place-ge79
-returns-then-place-ge79 c =
-    let t = c.args.t in
-    let e : length t.list ≡ 79 = search (rules, length_mapped) in
-    locked_none t _ _ c.place_of-place.ensures (omega arith)
+pub returns-then-place-list : goal.returns-then-place-list
+returns-then-place-list c = locked_at _ _ _ c.place_of-place.ensures _ c.as_slice-list.ensures _ c.is_some.ensures
 
-pub returns : goal.returns
-returns c =
-    let t = c.args.t in
-    let e : length t.list ≡ 79 = search (rules, length_mapped) in locked_at t _ _ c.place_of-place.ensures _ _ (omega arith) c.locks.ensures
+pub returns-else-place-list : goal.returns-else-place-list
+returns-else-place-list c = le-ltb _ _ c.if-place-list.false ∙ locked_none _ _ _ c.place_of-place.ensures _ c.as_slice-list.ensures c.if-place-list.false

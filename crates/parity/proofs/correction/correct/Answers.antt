@@ -1,5 +1,6 @@
 -- `parity::correction::correct` meets its contract: the lines of its table, and the last ones by what `settle` decides.
 use Rattle.std.proofs.Common.{refl, sym, ◌∙◌, arith, length}
+use mathlib.Core.Logic.{⊎_elim}
 use Rattle.lists.proofs.Tests.{and_no_left, and_no_right, and_yes}
 use Rattle.lists.proofs.Checks.{all, stop, rest, upto, tests}
 use Rattle.parity_rules.specs.Answers.{not_corrected}
@@ -20,11 +21,8 @@ returns-then-not-sized c = stop (not_corrected _) _ 1 all (search tests depth 12
 
 pub returns-then-overlay-ge16777216 : goal.returns-then-overlay-ge16777216
 unfolding correction
-returns-then-overlay-ge16777216 c = stop (not_corrected _) _ 2 all (search tests depth 12) (search (tests, and_no_left))
-
-pub returns-then-limit-gt12 : goal.returns-then-limit-gt12
-unfolding correction
-returns-then-limit-gt12 c = stop (not_corrected _) _ 2 all (search tests depth 12) (search (tests, and_no_right))
+returns-then-overlay-ge16777216 c = stop (not_corrected _) _ 2 all (search tests depth 12)
+    (⊎_elim (λ h. search (tests, and_no_left)) (λ h. search (tests, and_no_right)) c.then-overlay-ge16777216.either)
 
 pub gather-many-requires : goal.gather-many-requires
 gather-many-requires c = let s = sizes_here (goal.at.gather-many-requires c).Else-not-sized in (omega (arith, s.marks, s.most), refl)

@@ -1,29 +1,29 @@
 -- `parity::division::remainder_of` meets its contract. The invariant: dividing on from here, over the bytes left, gives the message's remainder.
-use mathlib.Core.Path.{◌≡◌, ◌∙◌}
-use mathlib.Core.List.{List, []}
-use Prim.Native.Nat.{ℕ, ◌+◌, ◌<◌}
-use native.Mathlib.Numerals.{add-one}
+use mathlib.Core.Path.{◌≡◌, refl}
+use mathlib.Core.List.{List, [], ◌∷◌}
+use Prim.Native.Nat.{ℕ}
 use native.Mathlib.Omega.{arith}
-use lib.ListN.{length, drop, get_or, drop_of_length-le}
-use lib.Seq.{drop-cons}
+use Rattle.lists.proofs.Walk.{walked_more, walked_all}
 use Rattle.parity_rules.specs.Messages.{bits, byte_then}
 use Rattle.parity_rules.specs.Division.{divide, remainder_of}
 use Rattle.parity.proofs.division.remainder_of.Goals as goal
 
--- one byte on
-turn : (msg : List ℕ) (i r q : ℕ) → i < length msg → q ≡ divide r (byte_then (get_or msg i 0) [])
-    → divide q (bits (drop (i + 1) msg)) ≡ divide r (bits (drop i msg))
-unfolding bits divide
-turn msg i r q h e = rw (add-one i, drop-cons msg i 0 h, e)
+-- some bytes more, and one
+abbrev over : ℕ → List ℕ → ℕ
+over r m = divide r (bits m)
 
-pub loop-i-preserved : goal.loop-i-preserved
-loop-i-preserved c =
-    let l = c.loop-i in (omega arith, omega arith, turn _ l.i l.r _ (omega arith) c.byte_in-r.ensures.0 ∙ l.invariant.2)
+abbrev one : ℕ → ℕ → ℕ
+one r b = divide r (byte_then b [])
+
+step : (r b : ℕ) (m : List ℕ) → over r (b ∷ m) ≡ over (one r b) m
+unfolding bits divide
+step r b m = refl
+
+pub loop-b-preserved : goal.loop-b-preserved
+loop-b-preserved c =
+    let l = c.loop-b in
+    (omega arith, walked_more over one step _ _ l.b-index l.r l.invariant.1 _ 0 (omega arith) c.byte_in-r.ensures.0)
 
 pub returns : goal.returns
 unfolding remainder_of bits divide
-returns c =
-    let l = c.loop-i in
-    let m = c.args.msg.now in
-    let d : drop l.i m ≡ [] = drop_of_length-le m {i = l.i} (omega arith) in
-    rw d at l.invariant.2
+returns c = let l = c.loop-b in walked_all over one step _ _ l.b-index l.r l.invariant.1 (omega arith)

@@ -2,13 +2,13 @@
 use Rattle.std.proofs.Common.{◌<◌, ◌-◌, ◌*◌, ℕ, refl, sym, subst, arith, length}
 use Rattle.parity_rules.specs.Messages.{bits}
 use Rattle.parity_rules.proofs.Bits.{bits_length, bits_are, are_at}
-use Rattle.parity_rules.proofs.Kept.{gathered_none, gathered_next, gathered_all}
+use Rattle.parity_rules.proofs.Kept.{gathered_none, gathered_next}
 use Rattle.parity.proofs.marks.gather.Goals as goal
 
 pub loop-k-init : goal.loop-k-init
 loop-k-init c =
     let m = c.args.marks.now in
-    (refl, omega arith, omega arith, omega arith, gathered_none (bits m) _ (length m * 8) (bits_length m))
+    (refl, omega arith, omega arith, gathered_none (bits m) _ (length m * 8) (bits_length m))
 
 pub noted-many-requires : goal.noted-many-requires
 noted-many-requires c =
@@ -22,13 +22,7 @@ loop-k-preserved c =
     let e = c.bit.ensures in
     let noted = c.noted-many.ensures in (
       refl,
-      omega arith,
       omega (arith, noted.counted),
       noted.room,
-      gathered_next (bits m) _ _ (length m * 8) c.loop-k.k _ _ _ (bits_length m) (omega arith) e c.loop-k.invariant.4 noted,
+      gathered_next (bits m) _ _ (length m * 8) c.loop-k.k _ _ _ (bits_length m) (omega arith) e c.loop-k.invariant.3 noted,
     )
-
-pub returns : goal.returns
-returns c =
-    let m = c.args.marks.now in
-    gathered_all (bits m) _ (length m * 8) c.loop-k.k _ (omega arith) c.loop-k.invariant.4

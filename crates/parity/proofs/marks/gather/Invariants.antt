@@ -8,7 +8,4 @@ use Rattle.parity.proofs.marks.gather.Given as goal
 
 abbrev pub invariant-loop-k : goal.invariant-loop-k
 invariant-loop-k l =
-    (l.n ≡ length l.marks * 8) × (l.k ≤ l.n) × (l.many ≤ l.k) × (length l.syns ≡ 12) × Gathered (drop (l.n - l.k) (bits l.marks)) l.many l.syns
-
-abbrev pub decreases-loop-k : goal.decreases-loop-k
-decreases-loop-k l = l.n - l.k
+    (l.n ≡ length l.marks * 8) × (l.many ≤ l.k) × (length l.syns ≡ 12) × Gathered (drop (l.n - l.k) (bits l.marks)) l.many l.syns

@@ -1,4 +1,5 @@
--- `parity::overlay::code_overlay` meets its contract: the two ranges, then the sum.
+-- `parity::overlay::code_overlay` meets its contract: the ranges, then the sum.
+use mathlib.Core.Logic.{⊎_elim}
 use Rattle.lists.specs.Answers.{refused_by}
 use Rattle.lists.proofs.Tests.{and_no_left, and_no_right, and_yes}
 use Rattle.lists.proofs.Checks.{all, stop, end, tests}
@@ -7,11 +8,8 @@ use Rattle.parity.proofs.overlay.code_overlay.Goals as goal
 
 pub returns-then-cl-gt7 : goal.returns-then-cl-gt7
 unfolding code_overlay
-returns-then-cl-gt7 c = stop refused_by _ 2 all (search tests depth 12) (search (tests, and_no_left))
-
-pub returns-then-ic-gt15 : goal.returns-then-ic-gt15
-unfolding code_overlay
-returns-then-ic-gt15 c = stop refused_by _ 2 all (search tests depth 12) (search (tests, and_no_right))
+returns-then-cl-gt7 c = stop refused_by _ 2 all (search tests depth 12)
+    (⊎_elim (λ h. search (tests, and_no_left)) (λ h. search (tests, and_no_right)) c.then-cl-gt7.either)
 
 pub returns : goal.returns
 unfolding code_overlay

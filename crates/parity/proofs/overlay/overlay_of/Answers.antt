@@ -11,7 +11,7 @@ use Rattle.parity.proofs.overlay.overlay_of.Goals.{At-loop-i}
 
 -- the product stays below 2 ^ 48
 small : (c : At-loop-i) → c.loop-i.p < 2 ^ 48
-small c = lt_of_lt_of_le c.loop-i.invariant.1 (pow_mono {j = 48} (omega arith))
+small c = lt_of_lt_of_le c.loop-i.invariant.0 (pow_mono {j = 48} (omega arith))
 
 pub overflow_mul-p : goal.overflow_mul-p
 overflow_mul-p c = omega (arith, small search)
@@ -19,8 +19,8 @@ overflow_mul-p c = omega (arith, small search)
 pub loop-i-preserved : goal.loop-i-preserved
 loop-i-preserved c =
     let l = c.loop-i in
-    let t = turn c.args.address l.p l.i (omega arith) l.invariant.0 l.invariant.1 l.invariant.2 in
-    (omega arith, t.0, t.1)
+    let t = turn c.args.address l.p l.i (omega arith) (omega arith) l.invariant.0 l.invariant.1 in
+    (t.0, t.1)
 
 pub overflow_cast-result : goal.overflow_cast-result
 overflow_cast-result c = omega (arith, small search)
@@ -30,4 +30,4 @@ unfolding overlay_of low_bits times
 returns c =
     let l = c.loop-i in
     let z : l.i ≡ 0 = omega arith in
-    ap (λ (n : ℕ). n / 2 ^ 24) (rw z at l.invariant.2)
+    ap (λ (n : ℕ). n / 2 ^ 24) (rw z at l.invariant.1)

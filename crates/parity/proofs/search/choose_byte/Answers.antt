@@ -4,4 +4,4 @@ use Rattle.parity_rules.proofs.Written.{byte_step}
 use Rattle.parity.proofs.search.choose_byte.Goals as goal
 
 pub loop-t-preserved : goal.loop-t-preserved
-loop-t-preserved c = (omega arith, byte_step _ _ _ _ _ _ _ _ _ _ _ _ c.loop-t-test.true c.loop-t.invariant.1 c.choose-c.ensures)
+loop-t-preserved c = byte_step _ _ _ _ _ _ _ _ _ _ _ _ (omega arith) c.loop-t.invariant c.choose-c.ensures

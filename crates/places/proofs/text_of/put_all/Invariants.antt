@@ -1,5 +1,5 @@
 -- `put_all` has laid the numbers of the marked bits before place i.
-use Prim.Native.Nat.{◌+◌, ◌*◌, ◌-◌, ◌≤◌}
+use Prim.Native.Nat.{◌+◌, ◌*◌, ◌≤◌}
 use mathlib.Core.Path.{◌≡◌}
 use lib.ListN.{length, drop}
 use Rattle.text_rules.specs.Put.{numbers_behind}
@@ -11,8 +11,5 @@ use Rattle.places.proofs.text_of.put_all.Given as goal
 
 abbrev pub invariant-loop-i : goal.invariant-loop-i
 invariant-loop-i l =
-    (l.i ≤ length l.marks * 8) × (l.n ≡ length l.marks * 8) × (l.end ≤ length l.out)
-    × Still (numbers_behind (places_in l.marks)) l.initial.end l.initial.out (text_from (l.i + 1) (drop l.i (bits l.marks))) l.end l.out
-
-abbrev pub decreases-loop-i : goal.decreases-loop-i
-decreases-loop-i l = l.n - l.i
+    (l.n ≡ length l.marks * 8) × (l.end ≤ length l.out)
+    × Still (numbers_behind (places_in l.marks)) l.at l.initial.out (text_from (l.i + 1) (drop l.i (bits l.marks))) l.end l.out

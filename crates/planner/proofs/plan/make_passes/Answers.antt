@@ -14,14 +14,12 @@ period-fits c = search rules
 
 pub loop-u-init : goal.loop-u-init
 loop-u-init c =
-    let m : length c.args.asks ≡ 128 = search (rules, length_mapped) in (
-      search rules,
-      turn_none c.wide-l.result c.args.s.guarantee c.args.n c.args.old c.args.asks _ refl (omega (arith, c.requires)),
-    )
+    let m : length c.args.asks ≡ 128 = search (rules, length_mapped) in
+    turn_none c.wide-l.result c.args.s.guarantee c.args.n c.args.old c.args.asks _ refl (omega (arith, c.requires))
 
 pub pass_over-r-requires : goal.pass_over-r-requires
 pass_over-r-requires c =
-    let h = c.loop-u.invariant.1 in (
+    let h = c.loop-u.invariant in (
       period-fits search,
       turn_room c.wide-l.result c.args.s.guarantee c.args.n c.args.old c.args.asks c.loop-u.u c.loop-u.r c.loop-u.rows
           c.loop-u.counts c.requires h,
@@ -30,15 +28,13 @@ pass_over-r-requires c =
     )
 
 pub loop-u-preserved : goal.loop-u-preserved
-loop-u-preserved c = (
-  search rules,
-  turn_more c.wide-l.result c.args.s.guarantee c.args.n c.args.old c.args.asks c.loop-u.u c.alone_in.result c.loop-u.r
-      c.pass_over-r.result c.loop-u.rows c.loop-u.counts _ _ c.alone_in.ensures c.loop-u.invariant.1 c.pass_over-r.ensures,
-)
+loop-u-preserved c =
+    turn_more c.wide-l.result c.args.s.guarantee c.args.n c.args.old c.args.asks c.loop-u.u c.alone_in.result c.loop-u.r
+    c.pass_over-r.result c.loop-u.rows c.loop-u.counts _ _ c.alone_in.ensures c.loop-u.invariant c.pass_over-r.ensures
 
 pub pass_over-requires : goal.pass_over-requires
 pass_over-requires c =
-    let h = c.loop-u.invariant.1 in (
+    let h = c.loop-u.invariant in (
       period-fits search,
       turn_room c.wide-l.result c.args.s.guarantee c.args.n c.args.old c.args.asks c.loop-u.u c.loop-u.r c.loop-u.rows
           c.loop-u.counts c.requires h,
@@ -49,5 +45,5 @@ pass_over-requires c =
 pub returns : goal.returns
 returns c =
     all_passed c.wide-l.result c.args.s.guarantee c.args.n c.args.old c.args.asks c.args.s c.loop-u.u c.loop-u.r
-    c.pass_over.result c.loop-u.rows c.loop-u.counts _ _ c.wide-l.ensures refl c.loop-u.invariant.0 c.loop-u-test.false c.loop-u.invariant.1
+    c.pass_over.result c.loop-u.rows c.loop-u.counts _ _ c.wide-l.ensures refl (search rules) c.loop-u-test.false c.loop-u.invariant
     c.pass_over.ensures

@@ -1,22 +1,16 @@
 -- `station::ages::all_older` meets its contract: a map in place.
-use Rattle.std.proofs.Common.{◌≡◌, length, arith, rules}
-use Rattle.lists.proofs.Front.{length_mapped}
-use Rattle.lists.proofs.Copied.{copied_count}
-use Rattle.lists.proofs.Mapped.{mapped_none, mapped_more, mapped_front}
+use Rattle.std.proofs.Common.{length, ap}
+use Rattle.lists.proofs.Mapped.{mapped_none, mapped_more, slots_count, slots_mapped}
 use Rattle.station_rules.specs.State.{older}
 use Rattle.station.proofs.ages.all_older.Goals as goal
 
-pub loop-i-init : goal.loop-i-init
-loop-i-init c = (search rules, mapped_none _ _)
+pub loop-x-init : goal.loop-x-init
+loop-x-init c = mapped_none _ _
 
-pub loop-i-preserved : goal.loop-i-preserved
-loop-i-preserved c = let t = c.args.t in
-    let e : length t.list ≡ 64 = search (rules, length_mapped) in
-    (search rules, mapped_more _ t.list _ _ _ (omega arith) c.loop-i.invariant.1 _ c.older-y.ensures)
+pub loop-x-preserved : goal.loop-x-preserved
+loop-x-preserved c = mapped_more _ _ _ _ _ c.loop-x-test.true c.loop-x.invariant _ c.older.ensures
 
 pub returns : goal.returns
-returns c = let t = c.args.t in
-    let e : length t.list ≡ 64 = search (rules, length_mapped) in
-    let l = mapped_front _ t.n t.list c.loop-i.i _ (omega arith) c.loop-i.invariant.1 in
-    let k = copied_count older t.n t.list c.live-n.result (omega arith) in
-    cc
+returns c = let t = c.args.t.now in
+    let n = ap length c.held-n.ensures.value in
+    rw (slots_mapped older t.n t.list _ n _ _ c.loop-x-test.false c.loop-x.invariant, slots_count older t.n t.list _ n)

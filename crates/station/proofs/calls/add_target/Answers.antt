@@ -16,10 +16,10 @@ pub returns-then-is_full : goal.returns-then-is_full
 unfolding new_target
 returns-then-is_full c = stop (refused _) _ 6 all (search tests depth 12) (search tests)
 
-pub push-out-requires : goal.push-out-requires
+pub push-requires : goal.push-requires
 unfolding new_target
-push-out-requires c = leb-false 64 _ (search tests)
+push-requires c = leb-false 64 _ (search tests)
 
 pub returns : goal.returns
 unfolding new_target
-returns c = rw (c.push-out.ensures, c.fresh-x.ensures) (end (refused _) _ all (search tests depth 12))
+returns c = rw (c.push.ensures, c.fresh.ensures) (end (refused _) _ all (search tests depth 12))

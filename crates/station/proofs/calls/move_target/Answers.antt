@@ -11,10 +11,10 @@ pub returns-then-not-in_list : goal.returns-then-not-in_list
 unfolding moved
 returns-then-not-in_list c = stop (refused _) _ 4 all (search tests depth 12) (search tests)
 
-pub put-out-requires : goal.put-out-requires
+pub put-requires : goal.put-requires
 unfolding moved
-put-out-requires c = search told_on
+put-requires c = search told_on
 
 pub returns : goal.returns
 unfolding moved
-returns c = rw (c.put-out.ensures, c.target_at-x.ensures) (end (refused _) _ all (search tests depth 12))
+returns c = rw (c.put.ensures, c.target_at-x.ensures) (end (refused _) _ all (search tests depth 12))

@@ -13,5 +13,5 @@ returns-then-not-in_list c = stop (refused _) _ 4 all (search tests depth 12) (s
 
 pub returns : goal.returns
 unfolding removed without
-returns c = rw (c.all_withdrawn-out.ensures, c.without-out-2.ensures, c.without-out.ensures)
+returns c = rw (c.withdraw_all.ensures, c.drop_all-2.ensures, c.drop_all.ensures)
     (end (refused _) _ all (search tests depth 12))

@@ -1,16 +1,15 @@
 -- `station::calls::report_on` meets its contract: check by check.
-use Rattle.std.proofs.Common.{◌∙◌}
 use Rattle.lists.proofs.Checks.{all, stop, end, tests}
 use Rattle.station_rules.specs.Calls.{not_reported, reported}
 use Rattle.station.proofs.calls.report_on.Goals as goal
 
 pub returns-then-not-is_address : goal.returns-then-not-is_address
 unfolding reported
-returns-then-not-is_address c = c.refused_report.ensures ∙ stop not_reported _ 2 all (search tests depth 12) (search tests)
+returns-then-not-is_address c = stop not_reported _ 2 all (search tests depth 12) (search tests)
 
 pub returns-then-not-in_list : goal.returns-then-not-in_list
 unfolding reported
-returns-then-not-in_list c = c.refused_report-then-not-in_list.ensures ∙ stop not_reported _ 4 all (search tests depth 12) (search tests)
+returns-then-not-in_list c = stop not_reported _ 4 all (search tests depth 12) (search tests)
 
 pub returns : goal.returns
 unfolding reported

@@ -17,10 +17,10 @@ pub returns-then-unit_full : goal.returns-then-unit_full
 unfolding requested
 returns-then-unit_full c = stop (refused _) _ 6 all (search tests depth 12) (search tests)
 
-pub push-out-requires : goal.push-out-requires
+pub push-requires : goal.push-requires
 unfolding requested
-push-out-requires c = slot_left _ _ (sym c.unit_full.ensures ∙ c.if-unit_full.false)
+push-requires c = slot_left _ _ (sym c.unit_full.ensures ∙ c.if-unit_full.false)
 
 pub returns : goal.returns
 unfolding requested
-returns c = rw c.push-out.ensures (end (refused _) _ all (search tests depth 12))
+returns c = rw c.push.ensures (end (refused _) _ all (search tests depth 12))

@@ -4,19 +4,19 @@ use borrow.Author.Tests.{lt-leb}
 use Rattle.station_rules.specs.Calls.{request_ranged}
 use Rattle.station.proofs.ranges.request_ranged.Goals as goal
 
-pub returns-then-q-gt7 : goal.returns-then-q-gt7
+pub returns-then-q-le7 : goal.returns-then-q-le7
 unfolding request_ranged
-returns-then-q-gt7 c = simp (lt-leb _ _ c.if-q-gt7.true)
-
-pub returns : goal.returns
-unfolding request_ranged
-returns c =
+returns-then-q-le7 c =
     rw (
-      le-leb _ _ c.if-q-gt7.false,
-      ← c.byte-uf.ensures,
-      ← c.byte-pc.ensures,
-      ← c.byte-rr.ensures,
-      ← c.byte-di.ensures,
-      ← c.wide-sd.ensures,
+      le-leb _ _ c.if-q-le7.true,
+      ← c.byte.ensures,
+      ← c.byte-then-q-le7.ensures,
+      ← c.byte-then-q-le7-2.ensures,
+      ← c.byte-then-q-le7-3.ensures,
+      ← c.wide.ensures,
     )
     c.selective_ranged.ensures
+
+pub returns-else-q-le7 : goal.returns-else-q-le7
+unfolding request_ranged
+returns-else-q-le7 c = simp (lt-leb _ _ c.if-q-le7.false)

@@ -8,10 +8,10 @@ pub returns-then-not-is_address : goal.returns-then-not-is_address
 unfolding target_ranged
 returns-then-not-is_address c = simp (sym c.is_address.ensures ∙ c.if-not-is_address.true)
 
-pub returns-then-far-near : goal.returns-then-far-near
+pub returns-then-near-far : goal.returns-then-near-far
 unfolding target_ranged
-returns-then-far-near c = simp (sym c.is_address.ensures ∙ c.if-not-is_address.false, lt-leb _ _ c.if-far-near.true)
+returns-then-near-far c = simp (sym c.is_address.ensures ∙ c.if-not-is_address.false, le-leb _ _ c.if-near-far.true)
 
-pub returns : goal.returns
+pub returns-else-near-far : goal.returns-else-near-far
 unfolding target_ranged
-returns c = simp (sym c.is_address.ensures ∙ c.if-not-is_address.false, le-leb _ _ c.if-far-near.false)
+returns-else-near-far c = simp (sym c.is_address.ensures ∙ c.if-not-is_address.false, lt-leb _ _ c.if-near-far.false)

@@ -3,20 +3,10 @@ use Rattle.std.proofs.Common.{sym, ◌∙◌}
 use Rattle.station_rules.specs.Replies.{targets_heard}
 use Rattle.station.proofs.replies.hear.Goals as goal
 
-pub returns-then-not-in_list : goal.returns-then-not-in_list
+pub returns-then-in_list : goal.returns-then-in_list
 unfolding targets_heard
-returns-then-not-in_list c = simp (sym c.in_list.ensures ∙ c.if-not-in_list.true)
+returns-then-in_list c = simp (sym c.in_list.ensures ∙ c.if-in_list.true, c.put.ensures, c.say.ensures, c.expected.ensures, c.target_at-x.ensures)
 
-pub put-requires : goal.put-requires
-put-requires c = sym c.in_list.ensures ∙ c.if-not-in_list.false
-
-pub returns : goal.returns
+pub returns-else-in_list : goal.returns-else-in_list
 unfolding targets_heard
-returns c =
-    simp (
-      sym c.in_list.ensures ∙ c.if-not-in_list.false,
-      c.put.ensures,
-      c.said_in-y.ensures,
-      c.expected.ensures,
-      c.target_at-x.ensures,
-    )
+returns-else-in_list c = simp (sym c.in_list.ensures ∙ c.if-in_list.false)

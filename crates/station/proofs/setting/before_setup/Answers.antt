@@ -4,4 +4,4 @@ use Rattle.station.proofs.setting.before_setup.Goals as goal
 
 pub returns : goal.returns
 unfolding before_setup
-returns c = rw (c.no_targets-xs.ensures, c.no_request-q.ensures, c.no_entry-e.ensures)
+returns c = rw (c.no_targets-held.ensures, c.no_request-waiting.ensures, c.no_entry-entries.ensures)

@@ -1,11 +1,8 @@
--- `station::targets::in_list` meets its contract: the place found against the count.
-use Rattle.std.proofs.Common.{◌≡◌, length, arith, length-take, rules}
-use Rattle.lists.proofs.Front.{length_mapped}
-use Rattle.station_rules.specs.State.{targets_of}
+-- `station::targets::in_list` meets its contract: whether a place is found.
+use Rattle.std.specs.Prelude.{Option, is_some}
+use Rattle.std.proofs.Common.{ap, ◌∙◌, ℕ}
+use Rattle.station.proofs.Held.{is_held}
 use Rattle.station.proofs.targets.in_list.Goals as goal
 
 pub returns : goal.returns
-returns c = let t = c.args.t in
-    let e : length t.list ≡ 64 = search (rules, length_mapped) in
-    let h : c.live-n.result ≡ length (targets_of t) = omega (arith, length-take t.n t.list) in
-    rw (h, c.find-i.ensures)
+returns c = c.is_some.ensures ∙ ap (λ (o : Option ℕ). is_some o) c.find.ensures ∙ is_held c.args.address c.args.t.now

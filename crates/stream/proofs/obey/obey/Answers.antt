@@ -1,7 +1,7 @@
 -- `obey` does what the kind asks.
-use Rattle.std.proofs.Common.{arith, inl, inr}
+use Rattle.std.proofs.Common.{refl, arith, inl, inr}
 use Rattle.stream_rules.specs.Step.{obeyed}
-use Rattle.stream.proofs.Steps.{did_of, of_kind, of_reply_is, of_none}
+use Rattle.stream.proofs.Steps.{did_of, did_lines, of_kind, of_reply_is, of_none}
 use Rattle.stream.proofs.obey.obey.Goals as goal
 use Rattle.stream.proofs.obey.obey.Goals.{in_default-via-then-kind-lt1, in_default-via-else-kind-lt1+else-kind-lt8}
 
@@ -44,4 +44,4 @@ returns-in_default c =
       | in_default-via-then-kind-lt1 w ↦ inl (omega arith)
       | in_default-via-else-kind-lt1+else-kind-lt8 w ↦ inr (omega arith)
     ]))
-    c.put_answered.ensures
+    (did_lines 36 (omega arith) refl refl (rw c.from.ensures at c.put_answer.ensures))

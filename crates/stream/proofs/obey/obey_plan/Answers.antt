@@ -9,8 +9,5 @@ use Rattle.stream.proofs.obey.obey_plan.Goals as goal
 pub returns : goal.returns
 returns c =
     did_of
-    (ap (planned_to _)
-    (c.plan_period-after.ensures
-    ∙ ap (next_plan _) c.tag_at-tag.ensures))
-    (did_lines 9252 (omega arith) refl refl
-    (within_then c.put_answer-first.ensures c.put_entries-end.ensures))
+    (ap (planned_to _) (c.plan_period.ensures ∙ ap (next_plan _) c.tag_at.ensures))
+    (did_lines 9252 (omega arith) refl refl (within_then c.put_answer-first.ensures c.put_entries.ensures))

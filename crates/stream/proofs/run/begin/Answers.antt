@@ -4,4 +4,4 @@ use Rattle.stream.proofs.run.begin.Goals as goal
 
 pub returns : goal.returns
 unfolding begun
-returns c = rw c.before_setup-station.ensures
+returns c = rw c.before_setup.ensures

@@ -5,13 +5,18 @@ use Rattle.stream.proofs.Steps.{step_end, step_unknown, step_cut, step_whole}
 use Rattle.stream.proofs.step.put_step.Goals as goal
 
 pub returns-in-End : goal.returns-in-End
-returns-in-End c = step_end _ _ _ _ (sym (found_is _ _ _ c.in-End.ensures)) c.put_nothing.ensures
+returns-in-End c =
+    step_end _ c.args.run.now c.wrapping_add_u32-run.ensures.value (sym (found_is _ _ _ c.in-End.ensures)) c.put_nothing.ensures
 
 pub returns-in-Unknown : goal.returns-in-Unknown
-returns-in-Unknown c = step_unknown _ _ _ _ (sym (found_is _ _ _ c.in-Unknown.ensures)) c.put_answer.ensures
+returns-in-Unknown c =
+    step_unknown _ c.args.run.now c.wrapping_add_u32-run.ensures.value (sym (found_is _ _ _ c.in-Unknown.ensures))
+    (rw c.from.ensures at c.put_answer.ensures)
 
 pub returns-in-Cut : goal.returns-in-Cut
-returns-in-Cut c = step_cut _ _ _ _ (sym (found_is _ _ _ c.in-Cut.ensures)) c.put_answer-in-Cut.ensures
+returns-in-Cut c =
+    step_cut _ c.args.run.now c.wrapping_add_u32-run.ensures.value (sym (found_is _ _ _ c.in-Cut.ensures))
+    (rw c.from-in-Cut.ensures at c.put_answer-in-Cut.ensures)
 
 pub returns-in-Whole : goal.returns-in-Whole
-returns-in-Whole c = step_whole _ _ _ _ (sym (found_is _ _ _ c.in-Whole.ensures)) c.obey-done.ensures
+returns-in-Whole c = step_whole _ c.args.run.now c.wrapping_add_u32-run.ensures.value (sym (found_is _ _ _ c.in-Whole.ensures)) c.obey.ensures

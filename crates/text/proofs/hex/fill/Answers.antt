@@ -16,7 +16,7 @@ pub overflow_add-out : goal.overflow_add-out
 overflow_add-out c = omega (arith, two c)
 
 pub loop-i-preserved : goal.loop-i-preserved
-loop-i-preserved c = (search pairs_more, search pairs_on, omega arith)
+loop-i-preserved c = (search pairs_more, search pairs_on)
 
 pub returns : goal.returns
 returns c = search pairs_end

@@ -1,5 +1,5 @@
 -- Bytes laid one by one, each from its two digits: what is still to be laid decides.
-use Prim.Native.Nat.{◌-◌, ◌*◌, ◌≤◌}
+use Prim.Native.Nat.{◌*◌}
 use mathlib.Core.Path.{◌≡◌}
 use mathlib.Core.Bool.{true}
 use lib.ListN.{drop}
@@ -9,7 +9,4 @@ use Rattle.text.proofs.hex.fill.Given as goal
 
 abbrev pub invariant-loop-i : goal.invariant-loop-i
 invariant-loop-i l =
-    (laid (pairs (drop (2 * l.i) l.word)) l.i l.out ≡ laid (pairs l.word) 0 l.initial.out) × (all_hex (drop (2 * l.i) l.word) ≡ true) × (l.i ≤ l.n)
-
-abbrev pub decreases-loop-i : goal.decreases-loop-i
-decreases-loop-i l = l.n - l.i
+    (laid (pairs (drop (2 * l.i) l.word)) l.i l.out ≡ laid (pairs l.word) 0 l.initial.out) × (all_hex (drop (2 * l.i) l.word) ≡ true)

@@ -1,24 +1,14 @@
--- A word read as bytes: one return for each reason that it is none.
+-- A word read as bytes: none where its length or a byte of it is not that of digits.
 use native.Mathlib.Omega.{arith}
-use borrow.Author.Tests.{not-true, not-false}
-use Rattle.lists.proofs.Checks.{told}
-use Rattle.text_rules.proofs.HexRead.{reading}
+use mathlib.Core.Path.{sym, ◌∙◌}
+use Rattle.text_rules.proofs.HexRead.{hex_empty, hex_long, hex_odd, hex_even, read_dash, read_not, read_bytes}
 use Rattle.text.proofs.hex.hex_bytes.Goals as goal
 
 pub returns-then-same : goal.returns-then-same
-returns-then-same c = search (reading, told, not-true, not-false, arith)
+returns-then-same c = read_dash _ _ (sym c.same.ensures ∙ c.if-same.true)
 
-pub returns-then-word-eq0 : goal.returns-then-word-eq0
-returns-then-word-eq0 c = search (reading, told, not-true, not-false, arith)
-
-pub returns-then-word-gt64 : goal.returns-then-word-gt64
-returns-then-word-gt64 c = search (reading, told, not-true, not-false, arith)
-
-pub returns-then-word-ne0 : goal.returns-then-word-ne0
-returns-then-word-ne0 c = search (reading, told, not-true, not-false, arith)
-
-pub returns-then-not-all_hex : goal.returns-then-not-all_hex
-returns-then-not-all_hex c = search (reading, told, not-true, not-false, arith)
+pub returns-then-is_empty : goal.returns-then-is_empty
+returns-then-is_empty c = read_not _ _ (sym c.same.ensures ∙ c.if-same.false) (grind (arith, hex_empty, hex_long, hex_odd, hex_even))
 
 pub returns : goal.returns
-returns c = search (reading, told, not-true, not-false, arith)
+returns c = read_bytes _ _ (sym c.same.ensures ∙ c.if-same.false) (grind (arith, hex_even)) c.fill.ensures

@@ -1,13 +1,22 @@
 -- Bytes put one by one in upper case: what is still to be put decides.
-use Rattle.text_rules.proofs.Laid.{put_out, put_inside}
-use Rattle.text.proofs.HexLoops.{upper_more, upper_end}
+use native.Mathlib.Omega.{arith}
+use mathlib.Core.Path.{refl}
+use mathlib.Core.List.{List, [], ◌∷◌, map}
+use Prim.Native.Nat.{ℕ}
+use Rattle.text_rules.specs.Hex.{upper_of}
+use Rattle.text_rules.proofs.Laid.{still_from, put_inside, put_as, each_more, each_all}
 use Rattle.text.proofs.hex.put_upper.Goals as goal
 
-pub returns-then-out-at : goal.returns-then-out-at
-returns-then-out-at c = search put_out
+abbrev one : ℕ → List ℕ
+one b = upper_of b ∷ []
 
-pub loop-i-preserved : goal.loop-i-preserved
-loop-i-preserved c = (search upper_more, search put_inside)
+pub loop-b-init : goal.loop-b-init
+loop-b-init c = (search still_from, omega arith)
+
+pub loop-b-preserved : goal.loop-b-preserved
+loop-b-preserved c =
+    let put = put_as (λ b. b ∷ []) c.upper.ensures c.put_byte-next.ensures in
+    (each_more one (map upper_of) c.args.t.now c.loop-b.b-index c.loop-b.invariant.0 (λ b t. refl) 0 (omega arith) put, search put_inside)
 
 pub returns : goal.returns
-returns c = search upper_end
+returns c = each_all one (map upper_of) c.args.t.now c.loop-b.b-index c.loop-b.invariant.0 refl (omega arith) c.loop-b.invariant.1

@@ -1,12 +1,7 @@
 -- The first newline at or after a place, by a run of bytes that are none.
-use Prim.Native.Nat.{◌-◌}
 use mathlib.Core.Path.{◌≡◌}
-use lib.ListN.{length}
 use Rattle.text_rules.specs.Line.{in_line, run_end}
 use Rattle.text.proofs.line.line_end.Given as goal
 
 abbrev pub invariant-loop-i : goal.invariant-loop-i
 invariant-loop-i l = run_end in_line l.s l.i ≡ run_end in_line l.s l.at
-
-abbrev pub decreases-loop-i : goal.decreases-loop-i
-decreases-loop-i l = length l.s - l.i

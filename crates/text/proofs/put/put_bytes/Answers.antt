@@ -1,13 +1,25 @@
--- Bytes put one after the other: the loop has put those that it has passed.
+-- Bytes put one by one: what is still to be put decides.
 use native.Mathlib.Omega.{arith}
-use Rattle.text_rules.proofs.Laid.{put_none, put_out, front_more}
+use mathlib.Core.Path.{refl}
+use mathlib.Core.List.{List, [], ◌∷◌}
+use Prim.Native.Nat.{ℕ}
+use Rattle.text_rules.proofs.Laid.{still_from, put_inside, each_more, each_all}
 use Rattle.text.proofs.put.put_bytes.Goals as goal
 
-pub returns-then-out-at : goal.returns-then-out-at
-returns-then-out-at c = search put_out
+abbrev one : ℕ → List ℕ
+one b = b ∷ []
 
-pub loop-i-init : goal.loop-i-init
-loop-i-init c = (put_none _ _ (omega arith), omega arith)
+abbrev all : List ℕ → List ℕ
+all t = t
 
-pub loop-i-preserved : goal.loop-i-preserved
-loop-i-preserved c = (search front_more, omega arith)
+pub loop-b-init : goal.loop-b-init
+loop-b-init c = (search still_from, omega arith)
+
+pub loop-b-preserved : goal.loop-b-preserved
+loop-b-preserved c = (
+  each_more one all c.args.t.now c.loop-b.b-index c.loop-b.invariant.0 (λ b t. refl) 0 (omega arith) c.put_byte-next.ensures,
+  search put_inside,
+)
+
+pub returns : goal.returns
+returns c = each_all one all c.args.t.now c.loop-b.b-index c.loop-b.invariant.0 refl (omega arith) c.loop-b.invariant.1

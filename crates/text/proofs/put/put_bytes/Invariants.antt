@@ -1,11 +1,8 @@
--- Bytes put one after the other: the loop has put those that it has passed.
-use Prim.Native.Nat.{◌≤◌, ◌-◌}
-use lib.ListN.{length, take}
-use Rattle.text_rules.specs.Put.{Put}
+-- Bytes put one by one: what is still to be put decides.
+use Prim.Native.Nat.{◌≤◌}
+use lib.ListN.{length, drop}
+use Rattle.text_rules.proofs.Laid.{Still}
 use Rattle.text.proofs.put.put_bytes.Given as goal
 
-abbrev pub invariant-loop-i : goal.invariant-loop-i
-invariant-loop-i l = Put (take l.i l.t) l.at l.initial.out l.out l.next × (l.i ≤ length l.t)
-
-abbrev pub decreases-loop-i : goal.decreases-loop-i
-decreases-loop-i l = length l.t - l.i
+abbrev pub invariant-loop-b : goal.invariant-loop-b
+invariant-loop-b l = Still l.t l.at l.initial.out (drop l.b-index l.t) l.next l.out × (l.next ≤ length l.out)
