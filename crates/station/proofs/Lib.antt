@@ -1,4 +1,4 @@
--- The laws by which the proofs of the calls go: bytes of a message, ticks, a correction on trial, a reply check by check, planning.
+-- The laws by which the proofs of the calls go: bytes of a message, ticks, a correction on trial, a reply check by check, planning; and that an outcome is unique.
 pub mod Held
 pub mod Leaves
 pub mod Ticks
@@ -6,3 +6,4 @@ pub mod Trials
 pub mod Settling
 pub mod Replying
 pub mod Joining
+pub mod Unique
