@@ -68,8 +68,8 @@ serves b p =
     }
 
 -- the console was quit, and nothing was laid
-pub ends : (b : Bench) {l : List ℕ} → Answers (telling [] (ended b)) l l (ended b) 0
-ends b = stays_silent
+pub ends : (b : Bench) {left : Bench} {l : List ℕ} → left ≡ ended b → Answers (telling [] (ended b)) l l left 0
+ends b e = rw e stays_silent
 
 -- a brief text was laid
 pub briefly : {t : List ℕ} {b : Bench} {size : ℕ} {l m : List ℕ} → Brief t l m size → Answers (telling t b) l m b size

@@ -2,7 +2,7 @@
 ghost use Rattle.std.specs.Prelude.{◌≡◌};
 ghost use Rattle.text_rules.specs.Line.{words_of};
 ghost use Rattle.console_rules.specs.Texts.{word};
-ghost use Rattle.console_rules.specs.Console.{Answers, begun, call_told, command_told, comment, words_told, line_told};
+ghost use Rattle.console_rules.specs.Console.{Answers, begun, ended, call_told, command_told, comment, words_told, line_told};
 
 use crate::reasons::{put_reason, put_too_long, read};
 use console_rules::{Bench, Command};
@@ -18,6 +18,13 @@ pub fn begin() -> Bench
     }
 }
 
+// The console is over.
+pub(crate) fn end(b: &mut Bench)
+    ensures { b.new ≡ ended b.old }
+{
+    b.over = true;
+}
+
 // What a call tells for a line that is read.
 fn put_call(c: Command, line: &[u8], b: &mut Bench, out: &mut [u8]) -> usize
     ensures { Answers (call_told c b.old (words_of line.now)) out.old out.new b.new result }
@@ -27,7 +34,7 @@ fn put_call(c: Command, line: &[u8], b: &mut Bench, out: &mut [u8]) -> usize
         Command::Flight(l) => console_aircraft::put_flight(l, line, &mut b.aircraft, out),
         Command::Station(l) => console_station::put_station(l, line, &mut b.station, out),
         Command::Quit => {
-            b.over = true;
+            end(b);
             0
         }
     }

@@ -1,5 +1,5 @@
 // The loop of the program console: each line of an input is answered before the next is waited for.
-use crate::console::{begin, console_line};
+use crate::console::{begin, console_line, end};
 use console_rules::Bench;
 use std::io::Read;
 
@@ -10,7 +10,7 @@ const ROOM: usize = 12288;
 fn answer(rt: &(impl Print + Eprint), b: &mut Bench, line: &[u8], out: &mut [u8]) {
     let size = console_line(b, line, out);
     if !inputs::print(rt, &out[..size]) {
-        b.over = true;
+        end(b);
     }
 }
 

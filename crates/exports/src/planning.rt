@@ -46,13 +46,21 @@ fn no_entry() -> Entry
 fn starts_of(entries: [Entry; 128]) -> [u16; 128]
     ensures { result ≡ starts_of entries }
 {
-    entries.map(|e| e.start)
+    let mut r = [0u16; 128];
+    for i in 0..128 {
+        r[i] = entries[i].start;
+    }
+    r
 }
 
 fn numbers_of(entries: [Entry; 128]) -> [u64; 128]
     ensures { result ≡ numbers_of entries }
 {
-    entries.map(|e| e.ask.request.ma)
+    let mut r = [0u64; 128];
+    for i in 0..128 {
+        r[i] = entries[i].ask.request.ma;
+    }
+    r
 }
 
 #[unsafe(no_mangle)]

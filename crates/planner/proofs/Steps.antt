@@ -18,7 +18,7 @@ use Rattle.planner_rules.specs.Exchange.{Span, exchange_of, entry_at, transmits,
 use Rattle.planner_rules.specs.Fits.{clear_of, fits, place}
 use Rattle.planner.specs.Promises.{held, Past, Step}
 use Rattle.planner_rules.proofs.Smallest.{le_or_lt, late, place_at, place_none}
-use Rattle.planner_rules.proofs.Clear.{or_right, clear_swap, clear_late, clear_of_none, clear_of_snoc}
+use Rattle.planner_rules.proofs.Clear.{or_right, clear_swap, clear_late, clear_of_none, clear_of_snoc, unclear_part}
 
 -- one interval of an exchange against one of another
 past_step : (p : ℕ → Span) (q : Span) (a b lo hi t r : ℕ) → ((j : ℕ) → (p j).lo ≡ j + a) → ((j : ℕ) → (p j).hi ≡ j + b) → q.lo ≡ lo → q.hi ≡ hi
@@ -134,6 +134,16 @@ module _ (a : Ask) (es : List Entry) where
       same : take (i + 1) es ≡ take i es ++ (get_or es i d ∷ [])
           → ◌≡◌ {A = ℕ → Bool} (λ (j : ℕ). clear_at i j && clear (entry_at a j) (get_or es i d)) (clear_at (i + 1))
       same e = fun_ext (λ j. sym (ap (clear_of (entry_at a j)) e ∙ clear_of_snoc (entry_at a j) (take i es) (get_or es i d)))
+
+  -- a round that moved and stops early: what the first i do not let through, the first n do not
+  pub round_rest : (t r i n : ℕ) → i ≤ n → t < r → Step (clear_at i) t r → Step (clear_at n) t r
+  round_rest t r i n l moved x =
+      record {
+        up = x.up;
+        cap = x.cap;
+        none = λ j from to. unclear_part (entry_at a j) es i n l (x.none j from to);
+        same = λ e. absurd (omega arith);
+      }
 
 -- rounds over the first n entries: no start below t fits
 module _ (L : ℕ) (a : Ask) (n : ℕ) (es : List Entry) where

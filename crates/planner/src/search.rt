@@ -61,14 +61,21 @@ fn nudge(t: u32, p: Exchange, address: u32, i: usize, rows: &[u32; 640]) -> u32
     )
 }
 
-// One round over the n entries that the rows show, from t on: past each that is in the way.
-fn round(t: u32, p: Exchange, address: u32, n: usize, rows: &[u32; 640]) -> u32
-    requires { (t ≤ 200000) × Small p × (n ≤ 128) × ((i : ℕ) → i < n → Roomy rows.now i) }
+// One round over the n entries that the rows show, from t on: past each that is in the way, until a move goes past the last start.
+fn round(t: u32, last: u32, p: Exchange, address: u32, n: usize, rows: &[u32; 640]) -> u32
+    requires { (t ≤ last) × (t ≤ 200000) × Small p × (n ≤ 128) × ((i : ℕ) → i < n → Roomy rows.now i) }
     ensures { Rounded p address rows.now n t result }
 {
     let mut start = t;
     for i in 0..n {
-        start = nudge(start, p, address, i, rows);
+        let next = nudge(start, p, address, i, rows);
+        if next == start {
+            continue;
+        }
+        if last < next {
+            return next;
+        }
+        start = next;
     }
     start
 }
@@ -84,9 +91,10 @@ pub(crate) fn first_fit(l: u32, a: Ask, n: usize, rows: &[u32; 640]) -> Option<u
     if too_long {
         return None;
     }
+    let last = l - p.to;
     let mut t: u32 = 0;
-    while t <= l - p.to {
-        let next = round(t, p, a.request.address, n, rows);
+    while t <= last {
+        let next = round(t, last, p, a.request.address, n, rows);
         if next == t {
             return Some(t as u16);
         }

@@ -1,4 +1,4 @@
--- What a word says with its sign, from what the code tested: `search upwards`, `search downwards` and `search signs` find it.
+-- What a word says with its sign, from what the code tested: for `up` and `down`.
 use Rattle.std.specs.Prelude.{Option, Some, None, Result, Ok, Err, SomeIff, OkIff}
 use Rattle.std.specs.Result.{result_ok}
 use Rattle.std.proofs.lemmas.Int.{ints}

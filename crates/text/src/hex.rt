@@ -10,7 +10,10 @@ use crate::put::put_byte;
 pub fn put_hex(out: &mut [u8], at: usize, bytes: &[u8]) -> usize
     ensures { Put (hex_of bytes.now) at out.old out.new result }
 {
-    let mut next = at.min(out.len());
+    if out.len() <= at {
+        return out.len();
+    }
+    let mut next = at;
     for &b in bytes {
         next = put_digits(out, next, b as u32, 2);
     }
@@ -38,7 +41,10 @@ fn put_digits(out: &mut [u8], at: usize, n: u32, width: usize) -> usize
 fn put_upper(out: &mut [u8], at: usize, t: &[u8]) -> usize
     ensures { Put (map upper_of t.now) at out.old out.new result }
 {
-    let mut next = at.min(out.len());
+    if out.len() <= at {
+        return out.len();
+    }
+    let mut next = at;
     for &b in t {
         next = put_byte(out, next, upper(b));
     }

@@ -13,11 +13,14 @@ pub fn put_byte(out: &mut [u8], at: usize, b: u8) -> usize
     out.len()
 }
 
-// The bytes of t.
+// The bytes of t; none is looked at where there is no room.
 pub fn put_bytes(out: &mut [u8], at: usize, t: &[u8]) -> usize
     ensures { Put t.now at out.old out.new result }
 {
-    let mut next = at.min(out.len());
+    if out.len() <= at {
+        return out.len();
+    }
+    let mut next = at;
     for &b in t {
         next = put_byte(out, next, b);
     }

@@ -1,19 +1,23 @@
 -- `starts_of` is the starts of the entries.
-use Prim.Native.Nat.{ℕ, ◌<◌}
 use native.Mathlib.Omega.{arith}
-use mathlib.Core.Path.{◌≡◌}
-use lib.ListN.{length, get_or}
 use Rattle.lists.proofs.Front.{length_mapped}
+use Rattle.lists.proofs.Copied.{copied_none, copied_more, copied_all}
 use Rattle.planner_rules.specs.declared.entry.Entry.{Entry}
 use borrow.Author.Rules.{rules}
-use Rattle.exports.proofs.Rows.{each_of}
 use Rattle.exports.proofs.planning.starts_of.Goals as goal
+
+pub loop-i-init : goal.loop-i-init
+loop-i-init c = (copied_none (λ (e : Entry). e.start) c.args.entries _, search (rules, length_mapped), search rules)
+
+pub loop-i-preserved : goal.loop-i-preserved
+loop-i-preserved c = let l = c.loop-i in (
+  copied_more (λ (e : Entry). e.start) c.args.entries _ l.i l.r _ (omega (arith, l.invariant.1)) (omega (arith, l.invariant.2)) l.invariant.0,
+  l.invariant.1,
+  l.invariant.2,
+)
 
 pub returns : goal.returns
 returns c =
-    let es = c.args.entries in
-    let n : length es ≡ 128 = search (rules, length_mapped) in
-    let m = c.map.ensures.items.long in
-    let at : (i : ℕ) (d : Entry) (e : ℕ) → i < length es → get_or c.map.result i e ≡ (get_or es i d).start = λ i d e l.
-    let x = c.map.ensures.items.at i d e (omega (arith, n)) in search rules in
-    each_of (λ (e : Entry). e.start) es c.map.result (omega (arith, n, m)) at
+    let l = c.loop-i in
+    copied_all (λ (e : Entry). e.start) c.args.entries _ l.i l.r (omega (arith, l.invariant.1, c.loop-i-test.false)) (omega (arith, l.invariant.1, l.invariant.2))
+    l.invariant.0

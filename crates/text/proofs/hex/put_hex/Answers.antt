@@ -2,11 +2,14 @@
 use native.Mathlib.Omega.{arith}
 use mathlib.Core.Path.{refl}
 use Rattle.text_rules.specs.Hex.{hex_in, hex_of}
-use Rattle.text_rules.proofs.Laid.{still_from, put_inside, each_more, each_all}
+use Rattle.text_rules.proofs.Laid.{put_out, still_first, put_inside, each_more, each_all}
 use Rattle.text.proofs.hex.put_hex.Goals as goal
 
+pub returns-then-out-at : goal.returns-then-out-at
+returns-then-out-at c = search put_out
+
 pub loop-b-init : goal.loop-b-init
-loop-b-init c = (search still_from, omega arith)
+loop-b-init c = (still_first _ _ _, omega arith)
 
 pub loop-b-preserved : goal.loop-b-preserved
 unfolding hex_of

@@ -4,14 +4,17 @@ use mathlib.Core.Path.{refl}
 use mathlib.Core.List.{List, [], ◌∷◌, map}
 use Prim.Native.Nat.{ℕ}
 use Rattle.text_rules.specs.Hex.{upper_of}
-use Rattle.text_rules.proofs.Laid.{still_from, put_inside, put_as, each_more, each_all}
+use Rattle.text_rules.proofs.Laid.{put_out, still_first, put_inside, put_as, each_more, each_all}
 use Rattle.text.proofs.hex.put_upper.Goals as goal
 
 abbrev one : ℕ → List ℕ
 one b = upper_of b ∷ []
 
+pub returns-then-out-at : goal.returns-then-out-at
+returns-then-out-at c = search put_out
+
 pub loop-b-init : goal.loop-b-init
-loop-b-init c = (search still_from, omega arith)
+loop-b-init c = (still_first _ _ _, omega arith)
 
 pub loop-b-preserved : goal.loop-b-preserved
 loop-b-preserved c =

@@ -3,7 +3,7 @@ use native.Mathlib.Omega.{arith}
 use mathlib.Core.Path.{refl}
 use mathlib.Core.List.{List, [], ◌∷◌}
 use Prim.Native.Nat.{ℕ}
-use Rattle.text_rules.proofs.Laid.{still_from, put_inside, each_more, each_all}
+use Rattle.text_rules.proofs.Laid.{put_out, still_first, put_inside, each_more, each_all}
 use Rattle.text.proofs.put.put_bytes.Goals as goal
 
 abbrev one : ℕ → List ℕ
@@ -12,8 +12,11 @@ one b = b ∷ []
 abbrev all : List ℕ → List ℕ
 all t = t
 
+pub returns-then-out-at : goal.returns-then-out-at
+returns-then-out-at c = search put_out
+
 pub loop-b-init : goal.loop-b-init
-loop-b-init c = (search still_from, omega arith)
+loop-b-init c = (still_first _ _ _, omega arith)
 
 pub loop-b-preserved : goal.loop-b-preserved
 loop-b-preserved c = (
