@@ -43,6 +43,7 @@ fn no_entry() -> Entry
     planner::entry_at(a, 0)
 }
 
+// The starts of the entries. A `for` over the places, here and below: as the array's `map` it copies every entry (docs/LOOK-BACK.md).
 fn starts_of(entries: [Entry; 128]) -> [u16; 128]
     ensures { result ≡ starts_of entries }
 {
@@ -53,6 +54,7 @@ fn starts_of(entries: [Entry; 128]) -> [u16; 128]
     r
 }
 
+// The MA of the entries.
 fn numbers_of(entries: [Entry; 128]) -> [u64; 128]
     ensures { result ≡ numbers_of entries }
 {

@@ -69,6 +69,7 @@ fn round(t: u32, last: u32, p: Exchange, address: u32, n: usize, rows: &[u32; 64
     let mut start = t;
     for i in 0..n {
         let next = nudge(start, p, address, i, rows);
+        // a start that stays is none past the last: the test is for those that move, which are few
         if next == start {
             continue;
         }

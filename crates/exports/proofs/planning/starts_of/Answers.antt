@@ -19,5 +19,5 @@ loop-i-preserved c = let l = c.loop-i in (
 pub returns : goal.returns
 returns c =
     let l = c.loop-i in
-    copied_all (λ (e : Entry). e.start) c.args.entries _ l.i l.r (omega (arith, l.invariant.1, c.loop-i-test.false)) (omega (arith, l.invariant.1, l.invariant.2))
-    l.invariant.0
+    let i = l.invariant.1 in
+    copied_all (λ (e : Entry). e.start) c.args.entries _ l.i l.r (omega (arith, i, c.loop-i-test.false)) (omega (arith, i, l.invariant.2)) l.invariant.0
